@@ -1,0 +1,4 @@
+pub mod Task
+pub mod Reach
+pub mod Orders
+pub mod Landmarks

@@ -1,0 +1,23 @@
+//! A scheme of works at a junction: which items its works can make stand, in which order, and which works no order can do without.
+ghost use Prim.Native.Nat.{_≤_};
+ghost use Rattle.std.specs.Of.Vec.{vec-len, vec-cap};
+use sets::Set;
+use sets::SetDebug;
+use sets::SetPartialEq;
+
+/// A work (an action of delete-free planning): it can be carried out where its needs stand, and its gives stand from then on.
+#[derive(Clone, Copy, PartialEq, Eq, Debug)]
+pub struct Work {
+    pub needs: Set,
+    pub gives: Set,
+}
+
+/// A scheme (a delete-free planning task): its works in order of entry, the items standing at the start and the wanted items.
+#[derive(Drop)]
+pub struct Scheme {
+    works: Vec<Work>,
+    standing: Set,
+    wanted: Set,
+    ghost few: { vec-len works ≤ 64 },
+    ghost reserved: { 64 ≤ vec-cap works },
+}

@@ -1,0 +1,3 @@
+mod Bits
+mod Cases
+pub mod Laws
