@@ -1,9 +1,15 @@
-//! A scheme of works at a junction: which items its works can make stand, in which order, and which works no order can do without.
+//! A scheme of works at a junction: the items that its works can make stand, the orders in which they can be carried out, and the
+//! landmarks that no order can do without.
 ghost use Prim.Native.Nat.{_≤_};
 ghost use Rattle.std.specs.Of.Vec.{vec-len, vec-cap};
 use sets::Set;
 use sets::SetDebug;
 use sets::SetPartialEq;
+
+mod editing;
+mod refusals;
+
+pub use refusals::Refusal;
 
 /// A work (an action of delete-free planning): it can be carried out where its needs stand, and its gives stand from then on.
 #[derive(Clone, Copy, PartialEq, Eq, Debug)]

@@ -7,7 +7,7 @@ ghost use Prim.Native.Nat.{ℕ, _<_};
 ghost use Rattle.std.specs.Options.{Cases};
 ghost use Rattle.std.specs.Orderings.{When};
 ghost use Rattle.sets.specs.Listed.{Listed};
-ghost use Rattle.sets.specs.Member.{Has, Members, Sub, Meet, Lowest};
+ghost use Rattle.sets.specs.Member.{Has, Members, Sub, Meet, Lowest, none};
 
 mod iter;
 
@@ -26,7 +26,7 @@ impl Set {
 
     /// The set with no members.
     pub fn empty() -> Set
-        ensures { λ r. ⌜ Members r (λ k. ⊥) ⌝ }
+        ensures { λ r. ⌜ r ≡ none ⌝ }
     {
         Set { bits: 0 }
     }
@@ -71,7 +71,8 @@ impl Set {
 
     /// Whether the set has no members.
     pub fn is_empty(self) -> bool
-        ensures { λ r. ⌜ When r ((k : ℕ) → Has self k → ⊥) ((k : ℕ) × Has self k) ⌝ }
+        ensures value { λ r. ⌜ When r (self ≡ none) (self ≡ none → ⊥) ⌝ }
+        ensures members { λ r. ⌜ When r ((k : ℕ) → Has self k → ⊥) ((k : ℕ) × Has self k) ⌝ }
     {
         self.bits == 0
     }

@@ -13,4 +13,4 @@ nothing-over a b over true m h = λ k x. ⊎-elim (λ y. y) (λ n. absurd (h k (
 nothing-over a b over false m h = let p = m (h .0) .0 (h .1) in (h .0, p .0, p .1)
 
 pub returns : need.returns
-returns c = nothing-over (c .args .self) (c .args .other) _ _ (c .minus .ensures) (c .is-empty .ensures)
+returns c = nothing-over (c .args .self) (c .args .other) _ _ (c .minus .ensures) (c .is-empty .ensures .members)

@@ -1,0 +1,4 @@
+pub mod Decided
+pub mod Reaches
+pub mod Ordered
+pub mod Drawing
