@@ -1,4 +1,5 @@
 pub mod Decided
 pub mod Reaches
+mod Passes
 pub mod Ordered
 pub mod Drawing

@@ -7,6 +7,7 @@ use sets::SetDebug;
 use sets::SetPartialEq;
 
 mod editing;
+mod reaching;
 mod refusals;
 
 pub use refusals::Refusal;
