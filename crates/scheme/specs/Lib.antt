@@ -4,4 +4,6 @@ pub mod Edits
 pub mod Reach
 pub mod Pass
 pub mod Orders
+pub mod Carrying
+pub mod Ready
 pub mod Landmarks

@@ -7,6 +7,7 @@ use sets::SetDebug;
 use sets::SetPartialEq;
 
 mod editing;
+mod orders;
 mod reaching;
 mod refusals;
 
@@ -27,4 +28,18 @@ pub struct Scheme {
     wanted: Set,
     ghost few: { vec-len works ≤ 64 },
     ghost reserved: { 64 ≤ vec-cap works },
+}
+
+/// The first place at which an order cannot be carried out, and why.
+#[derive(Clone, Copy, PartialEq, Eq, Debug)]
+pub enum Stop {
+    /// The work at this place is not held.
+    NotHeld {
+        place: usize,
+    },
+    /// The work at this place needs items that do not stand; this is the lowest of them.
+    Lacking {
+        place: usize,
+        item: usize,
+    },
 }
