@@ -6,4 +6,5 @@ pub mod Pass
 pub mod Orders
 pub mod Carrying
 pub mod Ready
+pub mod Placing
 pub mod Landmarks

@@ -1,11 +1,12 @@
 //! Orders of works: carrying one out, and the order of a set.
-ghost use Prim.Native.Nat.{ℕ, _<_};
+ghost use Prim.Native.Nat.{_≤_};
 ghost use lib.ListN.{length};
 ghost use Rattle.std.specs.Options.{Cases};
-ghost use Rattle.sets.specs.Member.{Has, Sub};
 ghost use Rattle.scheme.specs.Carrying.{Carries};
+ghost use Rattle.scheme.specs.Placing.{Filled, Orders};
 ghost use Rattle.scheme.specs.Ready.{First-ready, None-ready};
-ghost use Rattle.scheme.specs.Task.{task-of, work};
+ghost use Rattle.scheme.specs.Task.{task-of};
+use crate::Refusal;
 use crate::Scheme;
 use crate::Stop;
 use crate::Work;
@@ -18,6 +19,36 @@ impl Scheme {
     {
         carry(self.works.as_slice(), self.standing, order)
     }
+
+    /// Writes the order of a set of works into the first places: at each step its lowest-numbered unplaced work whose needs stand.
+    /// Answers how many were placed; later places stay.
+    pub fn order(&self, chosen: Set, places: &mut [u8]) -> Result<usize, Refusal>
+        ensures { λ r. ⌜ Orders (task-of (now (self .entry))) chosen (now (places .entry)) r (now (places .exit)) ⌝ }
+    {
+        let works = self.works.as_slice();
+        if places.len() < works.len() {
+            return Err(Refusal::ListTooShort);
+        }
+        Ok(place(works, chosen, self.standing, places))
+    }
+}
+
+/// Places a set of works from the standing items; answers how many were placed.
+fn place(works: &[Work], chosen: Set, standing: Set, places: &mut [u8]) -> usize
+    requires { ⌜ length (now works) ≤ 64 ⌝ }
+    requires { ⌜ length (now works) ≤ length (now places) ⌝ }
+    ensures { λ r. ⌜ Filled (now (works .entry)) chosen standing (now (places .entry)) r (now (places .exit)) ⌝ }
+{
+    let mut left = chosen;
+    let mut held = standing;
+    let mut placed = 0;
+    while let Some(w) = first_ready(works, left, held) {
+        places[placed] = w as u8;
+        held = held.union(works[w].gives);
+        left = left.without(w);
+        placed += 1;
+    }
+    placed
 }
 
 /// Carries out an order of works from the standing items.

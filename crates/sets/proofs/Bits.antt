@@ -167,3 +167,17 @@ digits-listed (suc w) n base h = go (n % 2) refl (digits-listed w (n / 2) (suc b
     go zero e rest = (rest .0, low-unset n base (rest .0) (rest .1) e)
     go (suc zero) e rest = (base ∷ rest .0, low-set n base (rest .0) (rest .1) e)
     go (suc (suc d)) e rest = absurd (omega arith)
+
+-- one set digit fewer is one fewer
+pub ones-fewer : (k n m : ℕ) → bit n k ≡ 1 → bit m k ≡ 0 → ((j : ℕ) → (j ≡ k → ⊥) → bit m j ≡ bit n j) → ones m + 1 ≡ ones n
+ones-fewer zero n m set unset rest =
+    let halves : m / 2 ≡ n / 2 =
+      bits-same (m / 2) (n / 2) (λ j. sym (bit-suc m j) ∙ rest (suc j) (λ e. omega arith) ∙ bit-suc n j)
+    in
+    omega (arith, ones-step n, ones-step m, ap ones halves, bit-zero n, bit-zero m)
+ones-fewer (suc k) n m set unset rest =
+    let less =
+      ones-fewer k (n / 2) (m / 2) (sym (bit-suc n k) ∙ set) (sym (bit-suc m k) ∙ unset)
+      (λ j ne. sym (bit-suc m j) ∙ rest (suc j) (λ e. ne (omega arith)) ∙ bit-suc n j)
+    in
+    omega (arith, ones-step n, ones-step m, rest 0 (λ e. omega arith), bit-zero n, bit-zero m)

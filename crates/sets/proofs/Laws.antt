@@ -7,14 +7,14 @@ use native.Mathlib.Nat.{zero-add, sub-zero}
 use native.Mathlib.Decide.{decLt}
 use lib.Arith.{bin-ind}
 use lib.Bits.{bitAnd, bitOr}
-use lib.Count.{ones}
+use lib.Count.{ones, ones-le}
 use lib.ListN.{length}
 use lib.Pow.{pow-pos}
 use mathlib.Core.List.{List}
 use Rattle.sets.specs.Listed.{Listed, In}
 use Rattle.sets.specs.declared.Set.{Set}
 use Rattle.sets.specs.Member.{Has, Members, Sub, Meet}
-use Rattle.sets.proofs.Bits.{bit, bit-and, bit-or, bit-none, bit-zero, bit-suc, bits-le, bit-high, bit-weight, bit-weight-other, bit-turned, below-pow, digits-listed}
+use Rattle.sets.proofs.Bits.{bit, bit-and, bit-or, bit-none, bit-zero, bit-suc, bits-le, bit-high, bit-weight, bit-weight-other, bit-turned, below-pow, digits-listed, ones-fewer}
 
 -- ---- one set
 
@@ -224,3 +224,26 @@ listed w s h =
       record { members = λ k. (whole k, sound k); rising = d .1 .rising },
       sym (d .1 .count),
     )
+
+-- a set whose members lie below n has at most n
+pub count-within : (n : ℕ) (s : Set) → ((k : ℕ) → Has s k → k < n) → ones (s .bits) ≤ n
+count-within n s h =
+    let all : Set = record { bits = 2 ^ n - 1 } in
+    let le = sub-le s all (λ k y. below-members n k .1 (h k y)) in
+    ones-le n (s .bits) (omega (arith, pow-pos n))
+
+-- a set with a member removed has one fewer
+pub count-without : (s t : Set) (k : ℕ) → Has s k → Members t (λ j. Has s j × (j ≡ k → ⊥)) → ones (t .bits) + 1 ≡ ones (s .bits)
+unfolding Has
+count-without s t k y m = ones-fewer k (s .bits) (t .bits) y unset others
+  where
+    unset : bit (t .bits) k ≡ 0
+    unset = ⊎-elim (λ z. absurd (m k .0 z .1 refl)) (λ not. omega (arith, not)) (has-or-not t k)
+
+    others : (j : ℕ) → (j ≡ k → ⊥) → bit (t .bits) j ≡ bit (s .bits) j
+    others j ne =
+        ⊎-elim (λ z. let low = m j .1 (z, ne) in omega arith)
+        (λ not.
+          let out : Has t j → ⊥ = λ z. not (m j .0 z .0) in
+          omega (arith, not, out))
+        (has-or-not s j)
