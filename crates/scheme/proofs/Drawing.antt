@@ -14,7 +14,7 @@ use Rattle.scheme.specs.declared.Work.{Work}
 use Rattle.scheme.specs.Task.{Task, work}
 use Rattle.scheme.specs.Reach.{Reach, Sufficient}
 use Rattle.scheme.specs.Orders.{Carried, finished, onward}
-use Rattle.scheme.specs.Landmarks.{Landmark, Trial, Grown, Drawn}
+use Rattle.scheme.specs.Landmarks.{Landmark, Trial, Grown, Drawn, Leaves}
 use Rattle.scheme.proofs.Decided.{added-if, same-decided, below-decided, sub-decided, both-decided, either-decided, not-decided}
 use Rattle.scheme.proofs.Reaches.{reach-unique, reach-exists, sufficient-by-reach, sufficient-grows, sufficient-or-not}
 use Rattle.scheme.proofs.Ordered.{placed-from, placed-plan, placed-exists}
@@ -114,14 +114,14 @@ carried-leaves :
     {works : List Work} {s e : Set} {order : List ℕ} (r : Set) →
     Carried works s order e →
     Sub s r →
-    Sub e r ⊎ ((w : ℕ) × In w order × (w < length works) × Sub (work works w .needs) r × (Sub (work works w .gives) r → ⊥))
+    Sub e r ⊎ ((w : ℕ) × In w order × (w < length works) × Leaves works r w)
 carried-leaves r finished from = inl from
 carried-leaves {works} r (onward {w} held needs adds c) from =
     ⊎-elim
     (λ gives.
-      ⊎-elim inl (λ f. inr (f .0, inr (f .1), f .2, f .3, f .4))
+      ⊎-elim inl (λ f. inr (f .0, inr (f .1), f .2, f .3))
       (carried-leaves r c (λ i y. ⊎-elim (from i) (gives i) (adds i .0 y))))
-    (λ not. inr (w, inl refl, held, λ i y. from i (needs i y), not))
+    (λ not. inr (w, inl refl, held, (λ i y. from i (needs i y), not)))
     (sub-decided (work works w .gives) r)
 
 -- a landmark is drawn from every insufficient set
@@ -131,27 +131,23 @@ drawn-landmark {k} d short order plan =
     (λ inside.
       absurd (grown-insufficient (d .is-grown) short
         (sufficient-by-reach k (d .is-reach) (λ i y. inside i (plan .reached i y)))))
-    (λ f. (f .0, d .leaving (f .0) .1 (f .2, f .3, f .4), f .1))
+    (λ f. (f .0, d .leaving (f .0) .1 (f .2, f .3), f .1))
     (carried-leaves (d .reach) (plan .carried) (d .is-reach .from))
 
 -- it has no work of that set
 pub drawn-apart : {k : Task} {s l : Set} → Drawn k s l → (w : ℕ) → Has s w → Has l w → ⊥
 drawn-apart d w y z =
     let out = d .leaving w .0 z in
-    out .2 (d .is-reach .closed w (out .0) (d .is-grown .from w y) (out .1))
-
--- w leaves the items r: its needs lie there and its gives do not
-abbrev Leaving : Task → Set → ℕ → Type 0
-Leaving k r w = (w < length (k .works)) × Sub (work (k .works) w .needs) r × (Sub (work (k .works) w .gives) r → ⊥)
+    out .1 .1 (d .is-reach .closed w (out .0) (d .is-grown .from w y) (out .1 .0))
 
 -- one landmark is drawn from a set
 pub drawn-unique : {k : Task} {s l l′ : Set} → Drawn k s l → Drawn k s l′ → l ≡ l′
 drawn-unique {k} {l} {l′} d d′ =
     let Reached : Set → Type 0 = λ g. Reach (k .works) (Has g) (k .standing) (d′ .reach) in
-    let Left : Set → Type 0 = λ r. Members l′ (Leaving k r) in
+    let Left : Set → Type 0 = λ r. Members l′ (λ w. (w < length (k .works)) × Leaves (k .works) r w) in
     let reached = subst Reached (grown-unique (d′ .is-grown) (d .is-grown)) (d′ .is-reach) in
     let same = reach-unique (k .works) (Has (d .grown)) (k .standing) (d′ .reach) (d .reach) reached (d .is-reach) in
-    same-members (Leaving k (d .reach)) l l′ (d .leaving) (subst Left same (d′ .leaving))
+    same-members (λ w. (w < length (k .works)) × Leaves (k .works) (d .reach) w) l l′ (d .leaving) (subst Left same (d′ .leaving))
 
 -- ---- every landmark
 
@@ -181,11 +177,11 @@ landmark-stays k k′ l works standing more mark order plan =
 -- ---- the grown set and the landmark that there are
 
 -- the set s grown by works below n
-record Grown-to (k : Task) (s : Set) (n : ℕ) (g : Set) : Type 0 where
-  from : Sub s g
-  only : (w : ℕ) → Has g w → Has s w ⊎ (w < n)
-  lacks : (w : ℕ) → w < n → (Has s w → ⊥) → Has g w → Sufficient k (Trial s g w) → ⊥
-  takes : (w : ℕ) → w < n → (Has s w → ⊥) → (Sufficient k (Trial s g w) → ⊥) → Has g w
+pub record Grown-to (k : Task) (s : Set) (n : ℕ) (g : Set) : Type 0 where
+  pub from : Sub s g
+  pub only : (w : ℕ) → Has g w → Has s w ⊎ (w < n)
+  pub lacks : (w : ℕ) → w < n → (Has s w → ⊥) → Has g w → Sufficient k (Trial s g w) → ⊥
+  pub takes : (w : ℕ) → w < n → (Has s w → ⊥) → (Sufficient k (Trial s g w) → ⊥) → Has g w
 
 module _ (k : Task) (s : Set) where
   trial-decided : (g : Set) (w v : ℕ) → Trial s g w v ⊎ (Trial s g w v → ⊥)
@@ -221,14 +217,44 @@ module _ (k : Task) (s : Set) where
           ]
       }
 
+  pub grown-none : Grown-to k s 0 s
+  grown-none = record {
+      from = λ w y. y;
+      only = λ w. inl;
+      lacks = λ w lt. absurd (omega arith);
+      takes = λ w lt. absurd (omega arith)
+    }
+
+  pub grown-all : {g : Set} → Grown-to k s (length (k .works)) g → Grown k s g
+  grown-all g = record { from = g .from; only = g .only; lacks = g .lacks; takes = g .takes }
+
+  -- the grown set with n, as a trial of n
+  module _ {n : ℕ} {g : Set} (more : Set) (h : Grown-to k s n g) (adds : Members more (λ v. Has g v ⊎ (v ≡ n))) where
+    trial-of : Sufficient k (Has more) → Sufficient k (Trial s g n)
+    trial-of =
+        sufficient-grows k (Has more) (Trial s g n)
+        (λ v held y. ⊎-elim (λ z. ⊎-elim inl (λ lt. inr (inl (z, lt))) (h .only v z)) (λ e. inr (inr e)) (adds v .0 y))
+
+    of-trial : Sufficient k (Trial s g n) → Sufficient k (Has more)
+    of-trial =
+        sufficient-grows k (Trial s g n) (Has more)
+        (λ v held. ⊎-elim (λ y. adds v .1 (inl (h .from v y))) (⊎-elim (λ p. adds v .1 (inl (p .0))) (λ e. adds v .1 (inr e))))
+
+    -- n is added, since the set stays insufficient with it
+    pub grown-with : (Sufficient k (Has more) → ⊥) → Grown-to k s (suc n) more
+    grown-with short =
+        grown-more n g more h (λ v. (
+          λ y. ⊎-elim inl (λ e. inr (e, λ enough. short (of-trial enough))) (adds v .0 y),
+          ⊎-elim (λ y. adds v .1 (inl y)) (λ p. adds v .1 (inr (p .0))),
+        ))
+
+    -- n is left out, since the set is sufficient with it
+    pub grown-over : Sufficient k (Has more) → Grown-to k s (suc n) g
+    grown-over enough =
+        grown-more n g g h (λ v. (inl, ⊎-elim (λ y. y) (λ p. absurd (p .1 (trial-of enough)))))
+
   grown-to : (n : ℕ) → (g : Set) × Grown-to k s n g
-  grown-to zero =
-      (s, record {
-        from = λ w y. y;
-        only = λ w. inl;
-        lacks = λ w lt. absurd (omega arith);
-        takes = λ w lt. absurd (omega arith)
-      })
+  grown-to zero = (s, grown-none)
   grown-to (suc n) =
       let g = grown-to n in
       let more =
@@ -240,28 +266,16 @@ module _ (k : Task) (s : Set) where
   -- every set can be grown
   pub grown-exists : (g : Set) × Grown k s g
   grown-exists =
-      let g = grown-to (length (k .works)) in
-      (g .0, record { from = g .1 .from; only = g .1 .only; lacks = g .1 .lacks; takes = g .1 .takes })
+      let g = grown-to (length (k .works)) in (g .0, grown-all (g .1))
 
   -- something is drawn from every set; from an insufficient one it is a landmark
   pub drawn-exists : (l : Set) × Drawn k s l
   drawn-exists =
       let g = grown-exists in
       let r = reach-exists (k .works) (Has (g .0)) (has-or-not (g .0)) (k .standing) in
-      let needs : ℕ → Set = λ w. work (k .works) w .needs in
-      let gives : ℕ → Set = λ w. work (k .works) w .gives in
       let l =
-        set-of (λ w. Sub (needs w) (r .0) × (Sub (gives w) (r .0) → ⊥))
-        (λ w. both-decided (sub-decided (needs w) (r .0)) (not-decided (sub-decided (gives w) (r .0))))
+        set-of (Leaves (k .works) (r .0))
+        (λ w. both-decided (sub-decided (work (k .works) w .needs) (r .0)) (not-decided (sub-decided (work (k .works) w .gives) (r .0))))
         (length (k .works))
       in
-      (l .0, record {
-        grown = g .0;
-        reach = r .0;
-        is-grown = g .1;
-        is-reach = r .1;
-        leaving = λ w. (
-          λ y. let p = l .1 w .0 y in (p .0, p .1 .0, p .1 .1),
-          λ p. l .1 w .1 (p .0, (p .1, p .2)),
-        )
-      })
+      (l .0, record { grown = g .0; reach = r .0; is-grown = g .1; is-reach = r .1; leaving = l .1 })

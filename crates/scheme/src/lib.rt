@@ -7,6 +7,7 @@ use sets::SetDebug;
 use sets::SetPartialEq;
 
 mod editing;
+mod landmarks;
 mod orders;
 mod reaching;
 mod refusals;

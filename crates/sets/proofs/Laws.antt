@@ -175,35 +175,42 @@ only-members k j = (
     λ e. subst (λ (i : ℕ). bit (2 ^ k) i ≡ 1) (sym e) (bit-weight k),
   )
 
+-- A set of the numbers below n of which P holds, taken to m, one more: with n, or as it is.
+module _ (P : ℕ → Type 0) (n m : ℕ) (s : Set) (next : m ≡ n + 1) (below : Members s (λ k. (k < n) × P k)) where
+  pub filled-with : (t : Set) → P n → Members t (λ k. Has s k ⊎ (k ≡ n)) → Members t (λ k. (k < m) × P k)
+  filled-with t here adds k = (
+      λ h. ⊎-elim (λ y. let p = below k .0 y in (omega (arith, p .0), p .1)) (λ e. (omega arith, subst P (sym e) here)) (adds k .0 h),
+      λ p. elim (decLt k n)
+        [ yes lt ↦ adds k .1 (inl (below k .1 (lt, p .1))) | no ge ↦ adds k .1 (inr (omega (arith, p .0))) ],
+    )
+
+  pub filled-over : (P n → ⊥) → Members s (λ k. (k < m) × P k)
+  filled-over not k = (
+      λ h. let p = below k .0 h in (omega (arith, p .0), p .1),
+      λ p. elim (decLt k n)
+        [ yes lt ↦ below k .1 (lt, p .1)
+        | no ge ↦ let e : k ≡ n = omega (arith, p .0) in absurd (not (subst P e (p .1)))
+        ],
+    )
+
+-- an added number that can be a member is one
+pub added-member : (s t : Set) (k : ℕ) → k < 64 → Members t (λ j. Has s j ⊎ ((j ≡ k) × (k < 64))) → Members t (λ j. Has s j ⊎ (j ≡ k))
+added-member s t k lt m j = (λ h. ⊎-elim inl (λ p. inr (p .0)) (m j .0 h), ⊎-elim (λ h. m j .1 (inl h)) (λ e. m j .1 (inr (e, lt))))
+
 -- There is a set of the numbers below n of which P holds.
 pub set-of : (P : ℕ → Type 0) → ((k : ℕ) → P k ⊎ (P k → ⊥)) → (n : ℕ) → (s : Set) × Members s (λ k. (k < n) × P k)
 set-of P decide zero = (record { bits = 0 }, λ k. (λ h. absurd (none-has k h), λ p. absurd (omega (arith, p .0))))
-set-of P decide (suc n) = step (decide n) (set-of P decide n)
-  where
-    step : P n ⊎ (P n → ⊥) → (s : Set) × Members s (λ k. (k < n) × P k) → (s : Set) × Members s (λ k. (k < suc n) × P k)
-    step (inr not) s = (
-        s .0,
-        λ k. (
-          λ h. (omega (arith, s .1 k .0 h .0), s .1 k .0 h .1),
-          λ p. elim (decLt k n)
-            [ yes lt ↦ s .1 k .1 (lt, p .1)
-            | no ge ↦ let e : k ≡ n = omega (arith, p .0) in absurd (not (subst P e (p .1)))
-            ],
-        ),
+set-of P decide (suc n) =
+    let s = set-of P decide n in
+    let last : Set = record { bits = 2 ^ n } in
+    let both = union-members (s .0) last in
+    let adds : Members (record { bits = bitOr (s .0 .bits) (2 ^ n) }) (λ k. Has (s .0) k ⊎ (k ≡ n)) = λ k. (
+        λ h. ⊎-elim inl (λ y. inr (only-members n k .0 y)) (both k .0 h),
+        ⊎-elim (λ h. both k .1 (inl h)) (λ e. both k .1 (inr (only-members n k .1 e))),
       )
-    step (inl here) s =
-        let last : Set = record { bits = 2 ^ n } in
-        let both = union-members (s .0) last in (
-          record { bits = bitOr (s .0 .bits) (2 ^ n) },
-          λ k. (
-            λ h. ⊎-elim {B = Has last k} (λ y. (omega (arith, s .1 k .0 y .0), s .1 k .0 y .1))
-              (λ y. let e : k ≡ n = only-members n k .0 y in (omega arith, subst P (sym e) here)) (both k .0 h),
-            λ p. elim (decLt k n)
-              [ yes lt ↦ both k .1 (inl (s .1 k .1 (lt, p .1)))
-              | no ge ↦ both k .1 (inr (only-members n k .1 (omega (arith, p .0))))
-              ],
-          ),
-        )
+    in
+    let more : Set = record { bits = bitOr (s .0 .bits) (2 ^ n) } in
+    ⊎-elim (λ here. (more, filled-with P n (suc n) (s .0) (omega arith) (s .1) more here adds)) (λ not. (s .0, filled-over P n (suc n) (s .0) (omega arith) (s .1) not)) (decide n)
 
 -- the set of the numbers below n
 pub below-members : (n : ℕ) → Members (record { bits = 2 ^ n - 1 }) (λ k. k < n)
