@@ -1,3 +1,4 @@
-mod Bits
+pub mod Bits
 mod Cases
 pub mod Laws
+pub mod Lists

@@ -6,7 +6,7 @@ ghost use lib.ListN.{length};
 ghost use Prim.Native.Nat.{ℕ, _<_};
 ghost use Rattle.std.specs.Options.{Cases};
 ghost use Rattle.std.specs.Orderings.{When};
-ghost use Rattle.sets.specs.Listed.{Listed};
+ghost use Rattle.sets.specs.Listed.{In, Listed};
 ghost use Rattle.sets.specs.Member.{Has, Members, Sub, Meet, Lowest, none};
 
 mod iter;
@@ -47,6 +47,17 @@ impl Set {
         } else {
             Set { bits: 0 }
         }
+    }
+
+    /// The set of some numbers, as far as they can be members.
+    pub fn of(numbers: &[usize]) -> Set
+        ensures { λ r. ⌜ Members r (λ k. In k (now (numbers .entry)) × (k < 64)) ⌝ }
+    {
+        let mut set = Set::empty();
+        for k in numbers {
+            set = set.with(*k);
+        }
+        set
     }
 
     /// The numbers below `n`, as far as they can be members.
