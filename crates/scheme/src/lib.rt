@@ -13,6 +13,8 @@ mod reaching;
 mod refusals;
 
 pub use refusals::Refusal;
+pub use refusals::RefusalDebug;
+pub use refusals::RefusalPartialEq;
 
 /// A work (an action of delete-free planning): it can be carried out where its needs stand, and its gives stand from then on.
 #[derive(Clone, Copy, PartialEq, Eq, Debug)]
