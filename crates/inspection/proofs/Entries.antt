@@ -22,9 +22,9 @@ pub holds-more : (k mid after : Task) (ps : List (ℕ × ℕ)) (i : ℕ) (w : Wo
 holds-more k mid after ps i w lt is held entered =
     let front = k .works ++ map work-of (take i ps) in
     let longer : front ++ (w ∷ []) ≡ k .works ++ map work-of (take (i + 1) ps) =
-      append-assoc (k .works) (map work-of (take i ps)) (w ∷ [])
-      ∙ ap (λ xs. k .works ++ xs)
-        (ap (λ x. map work-of (take i ps) ++ (x ∷ [])) is ∙ sym (map-more work-of ps i (0, 0) lt))
+    append-assoc (k .works) (map work-of (take i ps)) (w ∷ [])
+    ∙ ap (λ xs. k .works ++ xs)
+    (ap (λ x. map work-of (take i ps) ++ (x ∷ [])) is ∙ sym (map-more work-of ps i (0, 0) lt))
     in
     entered ∙ ap (λ m. with-works m (m .works ++ (w ∷ []))) held ∙ ap (λ works. with-works k works) longer
 

@@ -13,7 +13,15 @@ use std::alloc::AllocError;
 use std::alloc::Global;
 
 /// The names of the sample junction's works.
-pub const NAMES: [&str; 7] = ["Trench", "Duct", "Supply", "Controller", "Loops", "Radar", "Priority"];
+pub const NAMES: [&str; 7] = [
+    "Trench",
+    "Duct",
+    "Supply",
+    "Controller",
+    "Loops",
+    "Radar",
+    "Priority",
+];
 
 /// The needs and gives of the works, as the numbers of the sets.
 const WORKS: [(u64, u64); 7] = [(0, 3), (0, 1), (0, 2), (3, 4), (1, 8), (4, 8), (12, 16)];

@@ -56,8 +56,10 @@ pub added-if :
     (a : Set) (n : ℕ) (A : Type 0) → A ⊎ (A → ⊥) → (x : Set) × Members x (λ k. Has a k ⊎ ((k ≡ n) × A))
 added-if a n A decide =
     let one = set-of (λ k. (k ≡ n) × A) (λ k. both-decided (same-decided k n) decide) (suc n) in
-    let both = union-of a (one .0) in
-    (both .0, λ k. (
-      λ y. ⊎-elim inl (λ z. inr (one .1 k .0 z .1)) (both .1 k .0 y),
-      ⊎-elim (λ y. both .1 k .1 (inl y)) (λ p. both .1 k .1 (inr (one .1 k .1 (omega arith, p)))),
-    ))
+    let both = union-of a (one .0) in (
+      both .0,
+      λ k. (
+        λ y. ⊎-elim inl (λ z. inr (one .1 k .0 z .1)) (both .1 k .0 y),
+        ⊎-elim (λ y. both .1 k .1 (inl y)) (λ p. both .1 k .1 (inr (one .1 k .1 (omega arith, p)))),
+      ),
+    )

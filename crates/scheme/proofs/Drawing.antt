@@ -39,13 +39,14 @@ module _ {k : Task} {s g : Set} (h : Grown k s g) (short : Sufficient k (Has s) 
       without known =
           sufficient-grows k (Below s g (suc n)) (Below s g n)
           (λ w held. ⊎-elim inl (λ p.
-            elim (decLt w n)
-            [ yes lt ↦ inr (p .0, lt)
+          elim (decLt w n) [
+            | yes lt ↦ inr (p .0, lt)
             | no ge ↦
                 let e : w ≡ n = omega arith in
                 inl (subst (λ v. Has s v) (sym e) (known (subst (λ v. Has g v) e (p .0))))
-            ]))
+          ]))
           enough
+
       with-n : Sufficient k (Trial s g n)
       with-n =
           sufficient-grows k (Below s g (suc n)) (Trial s g n)
@@ -83,9 +84,9 @@ module _ {k : Task} {s : Set} where
   grown-next {g} {g′} h h′ w agree y =
       ⊎-elim (h′ .from w)
       (λ not. ⊎-elim (λ z. absurd (not z))
-        (λ held. h′ .takes w held not (λ enough. h .lacks w held not y
-          (trial-grows k s g′ g w agree enough)))
-        (h .only w y))
+      (λ held. h′ .takes w held not (λ enough. h .lacks w held not y
+      (trial-grows k s g′ g w agree enough)))
+      (h .only w y))
       (has-or-not s w)
 
   grown-agree :
@@ -119,8 +120,8 @@ carried-leaves r finished from = inl from
 carried-leaves {works} r (onward {w} held needs adds c) from =
     ⊎-elim
     (λ gives.
-      ⊎-elim inl (λ f. inr (f .0, inr (f .1), f .2, f .3))
-      (carried-leaves r c (λ i y. ⊎-elim (from i) (gives i) (adds i .0 y))))
+    ⊎-elim inl (λ f. inr (f .0, inr (f .1), f .2, f .3))
+    (carried-leaves r c (λ i y. ⊎-elim (from i) (gives i) (adds i .0 y))))
     (λ not. inr (w, inl refl, held, (λ i y. from i (needs i y), not)))
     (sub-decided (work works w .gives) r)
 
@@ -129,8 +130,8 @@ pub drawn-landmark : {k : Task} {s l : Set} → Drawn k s l → (Sufficient k (H
 drawn-landmark {k} d short order plan =
     ⊎-elim
     (λ inside.
-      absurd (grown-insufficient (d .is-grown) short
-        (sufficient-by-reach k (d .is-reach) (λ i y. inside i (plan .reached i y)))))
+    absurd (grown-insufficient (d .is-grown) short
+    (sufficient-by-reach k (d .is-reach) (λ i y. inside i (plan .reached i y)))))
     (λ f. (f .0, d .leaving (f .0) .1 (f .2, f .3), f .1))
     (carried-leaves (d .reach) (plan .carried) (d .is-reach .from))
 
@@ -171,7 +172,7 @@ landmark-stays k k′ l works standing more mark order plan =
       unbarred = plan .unbarred;
       last = plan .last;
       carried = subst₂ (λ a b. Carried a b order (plan .last)) (sym works) (sym standing) (plan .carried);
-      reached = λ i y. plan .reached i (more i y)
+      reached = λ i y. plan .reached i (more i y);
     })
 
 -- ---- the grown set and the landmark that there are
@@ -197,33 +198,33 @@ module _ (k : Task) (s : Set) where
       Grown-to k s (suc n) g′
   grown-more n g g′ h adds =
       let same : (w : ℕ) → w < suc n → Sufficient k (Trial s g′ w) → Sufficient k (Trial s g w) =
-        λ w le. trial-grows k s g′ g w (λ v lt y. ⊎-elim (λ z. z) (λ p. absurd (omega arith)) (adds v .0 y))
+      λ w le. trial-grows k s g′ g w (λ v lt y. ⊎-elim (λ z. z) (λ p. absurd (omega arith)) (adds v .0 y))
       in
       let Short : ℕ → Type 0 = λ w. Sufficient k (Trial s g w) → ⊥ in
       record {
         from = λ w y. adds w .1 (inl (h .from w y));
         only = λ w y.
-          ⊎-elim (λ z. ⊎-elim inl (λ lt. inr (omega arith)) (h .only w z)) (λ p. inr (omega arith)) (adds w .0 y);
+            ⊎-elim (λ z. ⊎-elim inl (λ lt. inr (omega arith)) (h .only w z)) (λ p. inr (omega arith)) (adds w .0 y);
         lacks = λ w le not y enough.
-          ⊎-elim
-          (λ z. ⊎-elim not (λ lt. h .lacks w lt not z (same w le enough)) (h .only w z))
-          (λ p. subst Short (sym (p .0)) (p .1) (same w le enough))
-          (adds w .0 y);
+            ⊎-elim
+            (λ z. ⊎-elim not (λ lt. h .lacks w lt not z (same w le enough)) (h .only w z))
+            (λ p. subst Short (sym (p .0)) (p .1) (same w le enough))
+            (adds w .0 y);
         takes = λ w le not short.
-          let short′ : Short w = λ enough. short (trial-grows k s g g′ w (λ v lt y. adds v .1 (inl y)) enough) in
-          elim (decLt w n)
-          [ yes lt ↦ adds w .1 (inl (h .takes w lt not short′))
-          | no ge ↦ let e : w ≡ n = omega arith in adds w .1 (inr (e, subst Short e short′))
-          ]
+            let short′ : Short w = λ enough. short (trial-grows k s g g′ w (λ v lt y. adds v .1 (inl y)) enough) in
+            elim (decLt w n) [
+              | yes lt ↦ adds w .1 (inl (h .takes w lt not short′))
+              | no ge ↦ let e : w ≡ n = omega arith in adds w .1 (inr (e, subst Short e short′))
+            ];
       }
 
   pub grown-none : Grown-to k s 0 s
   grown-none = record {
-      from = λ w y. y;
-      only = λ w. inl;
-      lacks = λ w lt. absurd (omega arith);
-      takes = λ w lt. absurd (omega arith)
-    }
+    from = λ w y. y;
+    only = λ w. inl;
+    lacks = λ w lt. absurd (omega arith);
+    takes = λ w lt. absurd (omega arith);
+  }
 
   pub grown-all : {g : Set} → Grown-to k s (length (k .works)) g → Grown k s g
   grown-all g = record { from = g .from; only = g .only; lacks = g .lacks; takes = g .takes }
@@ -258,8 +259,8 @@ module _ (k : Task) (s : Set) where
   grown-to (suc n) =
       let g = grown-to n in
       let more =
-        added-if (g .0) n (Sufficient k (Trial s (g .0) n) → ⊥)
-        (not-decided (sufficient-or-not k (Trial s (g .0) n) (trial-decided (g .0) n)))
+      added-if (g .0) n (Sufficient k (Trial s (g .0) n) → ⊥)
+      (not-decided (sufficient-or-not k (Trial s (g .0) n) (trial-decided (g .0) n)))
       in
       (more .0, grown-more n (g .0) (more .0) (g .1) (more .1))
 
@@ -274,8 +275,8 @@ module _ (k : Task) (s : Set) where
       let g = grown-exists in
       let r = reach-exists (k .works) (Has (g .0)) (has-or-not (g .0)) (k .standing) in
       let l =
-        set-of (Leaves (k .works) (r .0))
-        (λ w. both-decided (sub-decided (work (k .works) w .needs) (r .0)) (not-decided (sub-decided (work (k .works) w .gives) (r .0))))
-        (length (k .works))
+      set-of (Leaves (k .works) (r .0))
+      (λ w. both-decided (sub-decided (work (k .works) w .needs) (r .0)) (not-decided (sub-decided (work (k .works) w .gives) (r .0))))
+      (length (k .works))
       in
       (l .0, record { grown = g .0; reach = r .0; is-grown = g .1; is-reach = r .1; leaving = l .1 })

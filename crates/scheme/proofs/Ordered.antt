@@ -109,27 +109,33 @@ pub placed-carried :
     {works : List Work} {left s : Set} {order : List ℕ} →
     Placed works left s order →
     (e : Set) × Carried works s order e × Reach works (Has left) s e
-placed-carried {s} (none-left rest) =
-    (s, finished, record {
-      from = λ i y. y;
-      closed = λ w held has needs. absurd (rest w held has needs);
-      smallest = λ x from closed. from
-    })
+placed-carried {s} (none-left rest) = (
+  s,
+  finished,
+  record {
+    from = λ i y. y;
+    closed = λ w held has needs. absurd (rest w held has needs);
+    smallest = λ x from closed. from;
+  },
+)
 placed-carried {works} {s} (placing {left} {t} {w} held has needs first less adds p) =
     let rest = placed-carried p in
-    let r = rest .2 in
-    (rest .0, onward held needs adds (rest .1), record {
-      from = λ i y. r .from i (adds i .1 (inl y));
-      closed = λ v held′ has′ needs′.
-        elim (ℕ-discrete v w)
-        [ yes e ↦ λ i y. r .from i (adds i .1 (inr (subst (λ u. Has (work works u .gives) i) e y)))
-        | no ne ↦ r .closed v held′ (less v .1 (has′, ne)) needs′
-        ];
-      smallest = λ x from closed.
-        r .smallest x
-        (λ i y. ⊎-elim (from i) (closed w held has (λ j z. from j (needs j z)) i) (adds i .0 y))
-        (λ v held′ has′. closed v held′ (less v .0 has′ .0))
-    })
+    let r = rest .2 in (
+      rest .0,
+      onward held needs adds (rest .1),
+      record {
+        from = λ i y. r .from i (adds i .1 (inl y));
+        closed = λ v held′ has′ needs′.
+            elim (ℕ-discrete v w) [
+              | yes e ↦ λ i y. r .from i (adds i .1 (inr (subst (λ u. Has (work works u .gives) i) e y)))
+              | no ne ↦ r .closed v held′ (less v .1 (has′, ne)) needs′
+            ];
+        smallest = λ x from closed.
+            r .smallest x
+            (λ i y. ⊎-elim (from i) (closed w held has (λ j z. from j (needs j z)) i) (adds i .0 y))
+            (λ v held′ has′. closed v held′ (less v .0 has′ .0));
+      },
+    )
 
 -- the order of a sufficient set with no barred work is a plan
 pub placed-plan :
@@ -144,7 +150,7 @@ placed-plan {k} p enough apart =
       unbarred = λ w y. apart w (placed-from p w y);
       last = c .0;
       carried = c .1;
-      reached = reach-of-sufficient k enough (c .2)
+      reached = reach-of-sufficient k enough (c .2);
     }
 
 -- a set has one order
@@ -158,21 +164,21 @@ placed-unique (none-left rest) (none-left rest′) = refl
 placed-unique (none-left rest) (placing {w} held has needs first less adds p) = absurd (rest w held has needs)
 placed-unique (placing {w} held has needs first less adds p) (none-left rest) = absurd (rest w held has needs)
 placed-unique {works} {left} {s}
-  (placing {less} {t} {w} held has needs first fewer adds p)
-  (placing {less = less′} {t = t′} {w = w′} {rest = rest′} held′ has′ needs′ first′ fewer′ adds′ p′) =
+    (placing {less} {t} {w} held has needs first fewer adds p)
+    (placing {less = less′} {t = t′} {w = w′} {rest = rest′} held′ has′ needs′ first′ fewer′ adds′ p′) =
     let Fewer : Set → ℕ → Type 0 = λ x u. Members x (λ v. Has left v × (v ≡ u → ⊥)) in
     let Adds : Set → ℕ → Type 0 = λ x u. Members x (λ i. Has s i ⊎ Has (work works u .gives) i) in
     let same : w′ ≡ w =
-      elim (decLt w w′)
-      [ yes lt ↦ absurd (first′ w lt has needs)
+    elim (decLt w w′) [
+      | yes lt ↦ absurd (first′ w lt has needs)
       | no ge ↦ elim (decLt w′ w) [ yes lt ↦ absurd (first w′ lt has′ needs′) | no le ↦ omega arith ]
-      ]
+    ]
     in
     let less-same : less′ ≡ less =
-      same-members (λ v. Has left v × (v ≡ w → ⊥)) less′ less (subst (λ u. Fewer less′ u) same fewer′) fewer
+    same-members (λ v. Has left v × (v ≡ w → ⊥)) less′ less (subst (λ u. Fewer less′ u) same fewer′) fewer
     in
     let t-same : t′ ≡ t =
-      same-members (λ i. Has s i ⊎ Has (work works w .gives) i) t′ t (subst (λ u. Adds t′ u) same adds′) adds
+    same-members (λ i. Has s i ⊎ Has (work works w .gives) i) t′ t (subst (λ u. Adds t′ u) same adds′) adds
     in
     ap₂ _∷_ (sym same) (placed-unique p (subst₂ (λ a b. Placed works a b rest′) less-same t-same p′))
 
@@ -185,14 +191,14 @@ placed-exists works left s = place (suc (left .bits)) left s (omega arith)
     place (suc n) left s room =
         ⊎-elim
         (λ f.
-          let w = f .0 in
-          let less = part-of left (λ v. v ≡ w → ⊥) (λ v. not-decided (same-decided v w)) in
-          let more = union-of s (work works w .gives) in
-          let smaller : less .0 .bits < left .bits =
-            proper-lt (less .0) left (λ v y. less .1 v .0 y .0) w (f .2 .0) (λ y. less .1 w .0 y .1 refl)
-          in
-          let rest = place n (less .0) (more .0) (omega arith) in
-          (w ∷ rest .0, placing (f .1) (f .2 .0) (f .2 .1) (λ v lt y z. f .3 v lt (y, z)) (less .1) (more .1) (rest .1)))
+        let w = f .0 in
+        let less = part-of left (λ v. v ≡ w → ⊥) (λ v. not-decided (same-decided v w)) in
+        let more = union-of s (work works w .gives) in
+        let smaller : less .0 .bits < left .bits =
+        proper-lt (less .0) left (λ v y. less .1 v .0 y .0) w (f .2 .0) (λ y. less .1 w .0 y .1 refl)
+        in
+        let rest = place n (less .0) (more .0) (omega arith) in
+        (w ∷ rest .0, placing (f .1) (f .2 .0) (f .2 .1) (λ v lt y z. f .3 v lt (y, z)) (less .1) (more .1) (rest .1)))
         (λ nothing. ([], none-left (λ w held y z. nothing w held (y, z))))
         (lowest-below (λ w. Has left w × Sub (work works w .needs) s)
-          (λ w. both-decided (has-or-not left w) (sub-decided (work works w .needs) s)) (length works))
+        (λ w. both-decided (has-or-not left w) (sub-decided (work works w .needs) s)) (length works))

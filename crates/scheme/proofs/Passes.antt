@@ -24,17 +24,17 @@ module _ {works : List Work} {P : ℕ → Type 0} {s : Set} where
       (P n → Sub (work works n .needs) s → Sub (work works n .gives) t) →
       Pass works P (n + 1) s t
   more {n} {t} p grows within here = record {
-      from = λ i y. grows i (p .from i y);
-      gives = λ w lt chosen needs.
-        elim (decLt w n)
-        [ yes below ↦ λ i y. grows i (p .gives w below chosen needs i y)
-        | no at ↦
-            let e : n ≡ w = omega arith in
-            let At : ℕ → Type 0 = λ v. P v → Sub (work works v .needs) s → Sub (work works v .gives) t in
-            subst At e here chosen needs
+    from = λ i y. grows i (p .from i y);
+    gives = λ w lt chosen needs.
+        elim (decLt w n) [
+          | yes below ↦ λ i y. grows i (p .gives w below chosen needs i y)
+          | no at ↦
+              let e : n ≡ w = omega arith in
+              let At : ℕ → Type 0 = λ v. P v → Sub (work works v .needs) s → Sub (work works v .gives) t in
+              subst At e here chosen needs
         ];
-      within = within
-    }
+    within = within;
+  }
 
   -- the gives of a chosen work whose needs are held
   pub pass-gives : {n : ℕ} {r t : Set} →
@@ -44,7 +44,7 @@ module _ {works : List Work} {P : ℕ → Type 0} {s : Set} where
   pass-gives {n} p held chosen needs adds =
       more p (λ i y. adds i .1 (inl y))
       (λ x from closed i y. ⊎-elim (p .within x from closed i)
-        (closed n held chosen (λ j z. p .within x from closed j (needs j z)) i) (adds i .0 y))
+      (closed n held chosen (λ j z. p .within x from closed j (needs j z)) i) (adds i .0 y))
       (λ _ _ i y. adds i .1 (inr y))
 
   -- any other work
@@ -65,9 +65,9 @@ pub record Towards (works : List Work) (P : ℕ → Type 0) (s held : Set) : Typ
 module _ {works : List Work} {P : ℕ → Type 0} {s held next : Set} where
   pub towards-more : Towards works P s held → Pass works P (length works) held next → Towards works P s next
   towards-more t p = record {
-      from = λ i y. p .from i (t .from i y);
-      within = λ x from closed. p .within x (t .within x from closed) closed
-    }
+    from = λ i y. p .from i (t .from i y);
+    within = λ x from closed. p .within x (t .within x from closed) closed;
+  }
 
   -- a pass that adds nothing has come to the reach
   pub towards-reach : Towards works P s held → Pass works P (length works) held next → next ≡ held → Reach works P s held

@@ -48,9 +48,9 @@ remaining-less : {works : List Work} {left less : Set} {count : ℕ} (w : ℕ) �
 remaining-less {works} {left} {less} w held chosen removed r =
     let some = part-of less (λ v. v < length works) (λ v. below-decided v (length works)) in
     let fewer : Members (some .0) (λ v. Has (r .some) v × (v ≡ w → ⊥)) = λ v. (
-        λ y. let p = some .1 v .0 y in let q = removed v .0 (p .0) in (r .members v .1 (q .0, p .1), q .1),
-        λ p. let q = r .members v .0 (p .0) in some .1 v .1 (removed v .1 (q .0, p .1), q .1),
-      )
+      λ y. let p = some .1 v .0 y in let q = removed v .0 (p .0) in (r .members v .1 (q .0, p .1), q .1),
+      λ p. let q = r .members v .0 (p .0) in some .1 v .1 (removed v .1 (q .0, p .1), q .1),
+    )
     in (
       ones (some .0 .bits),
       record { some = some .0; members = some .1; counted = refl },
@@ -67,7 +67,7 @@ module _ {works : List Work} {chosen standing : Set} {from : List ℕ} where
         remaining = r .1;
         fits = omega (arith, r .2);
         long = refl;
-        later = refl
+        later = refl;
       }
 
   -- there is a place for the next work
@@ -90,17 +90,17 @@ module _ {works : List Work} {chosen standing : Set} {from : List ℕ} where
       let Whole : List ℕ → Type 0 = λ order. Placed works chosen standing order in
       record {
         whole = λ rest q.
-          subst Whole (sym (ap (λ xs. xs ++ rest) (take-more-set to n w lt) ∙ append-assoc (take n to) (w ∷ []) rest))
-          (p .whole (w ∷ rest) (placing (f .held) (f .chosen) (f .needs) (f .first) removed adds q));
+            subst Whole (sym (ap (λ xs. xs ++ rest) (take-more-set to n w lt) ∙ append-assoc (take n to) (w ∷ []) rest))
+            (p .whole (w ∷ rest) (placing (f .held) (f .chosen) (f .needs) (f .first) removed adds q));
         count = fewer .0;
         remaining = fewer .1;
         fits = omega (arith, p .fits, fewer .2);
         long = simp length-set (p .long);
         later =
-          drop-set-lt (n + 1) to n w (omega arith)
-          ∙ sym (drop-drop 1 n to)
-          ∙ ap (drop 1) (p .later)
-          ∙ drop-drop 1 n from
+            drop-set-lt (n + 1) to n w (omega arith)
+            ∙ sym (drop-drop 1 n to)
+            ∙ ap (drop 1) (p .later)
+            ∙ drop-drop 1 n from;
       }
 
   pub placing-done : {left held : Set} {n : ℕ} {to : List ℕ} →
@@ -113,7 +113,7 @@ module _ {works : List Work} {chosen standing : Set} {from : List ℕ} where
       record {
         within = omega (arith, p .fits, p .long);
         placed = subst Whole (append-nil (take n to)) (p .whole [] (none-left none));
-        later = p .later
+        later = p .later;
       }
 
 -- what the order of a set serves for
@@ -124,5 +124,5 @@ serves k chosen order p =
       last = end .0;
       carried = end .1;
       reach = end .2;
-      plan = λ enough. placed-plan p enough (λ w y z. none-has w z)
+      plan = λ enough. placed-plan p enough (λ w y z. none-has w z);
     }

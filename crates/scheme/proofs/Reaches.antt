@@ -96,21 +96,23 @@ module _ (works : List Work) (P : ℕ → Type 0) (decide : (w : ℕ) → P w �
   reach-by-steps top from closed (suc n) c room holds within =
       ⊎-elim
       (λ f.
-        let w = f .0 in
-        let more = union-of c (work works w .gives) in
-        let grows : Sub c (more .0) = λ i y. more .1 i .1 (inl y) in
-        let larger : c .bits < more .0 .bits = union-larger c (work works w .gives) (f .2 .1 .1) in
-        reach-by-steps top from closed n (more .0) (omega arith)
-        (λ i y. grows i (holds i y))
-        (λ x fx cx i y. ⊎-elim (within x fx cx i)
-          (cx w (f .1) (f .2 .0) (λ j z. within x fx cx j (f .2 .1 .0 j z)) i) (more .1 i .0 y)))
-      (λ nothing.
-        (c, record {
+      let w = f .0 in
+      let more = union-of c (work works w .gives) in
+      let grows : Sub c (more .0) = λ i y. more .1 i .1 (inl y) in
+      let larger : c .bits < more .0 .bits = union-larger c (work works w .gives) (f .2 .1 .1) in
+      reach-by-steps top from closed n (more .0) (omega arith)
+      (λ i y. grows i (holds i y))
+      (λ x fx cx i y. ⊎-elim (within x fx cx i)
+      (cx w (f .1) (f .2 .0) (λ j z. within x fx cx j (f .2 .1 .0 j z)) i) (more .1 i .0 y)))
+      (λ nothing. (
+        c,
+        record {
           from = holds;
           closed = λ w held p needs.
-            ⊎-elim (λ y. y) (λ not. absurd (nothing w held (p, (needs, not)))) (sub-decided (work works w .gives) c);
-          smallest = within
-        }))
+              ⊎-elim (λ y. y) (λ not. absurd (nothing w held (p, (needs, not)))) (sub-decided (work works w .gives) c);
+          smallest = within;
+        },
+      ))
       (lowest-below (Adds c) (adds-decided c) (length works))
 
   -- chosen works that can be told from the others have a reach

@@ -1,7 +1,5 @@
 //! Making and editing a scheme.
 ghost use mathlib.Core.Path.{_≡_};
-ghost use lib.ListN.{length};
-ghost use Rattle.std.specs.Of.Vec.{vec-items};
 ghost use Rattle.std.specs.Vec.{made};
 ghost use Rattle.scheme.specs.Edits.{opened, Entered, Amended, Added, Stood, Wanted, Waived};
 ghost use Rattle.scheme.specs.Task.{task-of};
@@ -35,27 +33,6 @@ impl Scheme {
         self.works.clear();
         self.standing = Set::empty();
         self.wanted = Set::empty();
-    }
-
-    /// The works in order of entry.
-    pub fn works(&self) -> &[Work]
-        ensures { λ r. ⌜ now r ≡ task-of (now (self .entry)) .works ⌝ }
-    {
-        self.works.as_slice()
-    }
-
-    /// The items standing at the start.
-    pub fn standing(&self) -> Set
-        ensures { λ r. ⌜ r ≡ task-of (now (self .entry)) .standing ⌝ }
-    {
-        self.standing
-    }
-
-    /// The wanted items.
-    pub fn wanted(&self) -> Set
-        ensures { λ r. ⌜ r ≡ task-of (now (self .entry)) .wanted ⌝ }
-    {
-        self.wanted
     }
 
     /// Enters a work and answers its number.

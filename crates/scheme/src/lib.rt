@@ -10,10 +10,12 @@ mod editing;
 mod landmarks;
 mod orders;
 mod reaching;
+mod reading;
 mod refusals;
 
 pub use refusals::Refusal;
 pub use refusals::RefusalDebug;
+pub use refusals::RefusalDisplay;
 pub use refusals::RefusalPartialEq;
 
 /// A work (an action of delete-free planning): it can be carried out where its needs stand, and its gives stand from then on.
@@ -37,12 +39,7 @@ pub struct Scheme {
 #[derive(Clone, Copy, PartialEq, Eq, Debug)]
 pub enum Stop {
     /// The work at this place is not held.
-    NotHeld {
-        place: usize,
-    },
+    NotHeld { place: usize },
     /// The work at this place needs items that do not stand; this is the lowest of them.
-    Lacking {
-        place: usize,
-        item: usize,
-    },
+    Lacking { place: usize, item: usize },
 }

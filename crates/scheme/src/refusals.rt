@@ -1,6 +1,8 @@
 //! Why a call is refused.
 ghost use mathlib.Core.Path.{_≡_};
-ghost use Rattle.scheme.specs.Refusals.{number-of};
+ghost use Rattle.std.specs.declared.option.Option.the-variants.{Some};
+ghost use Rattle.scheme.specs.Refusals.{number-of, reason-of};
+use std::fmt;
 
 /// Why a call was refused. A refused call changes nothing, but for the landmarks kept when the capacity is spent.
 #[derive(Clone, Copy, PartialEq, Eq, Debug)]
@@ -47,5 +49,32 @@ impl Refusal {
             Refusal::CapacitySpent => 10,
             Refusal::PaperTooLong => 11,
         }
+    }
+
+    /// The reason in plain words.
+    pub fn reason(self) -> &'static str
+        ensures { λ r. ⌜ now r ≡ reason-of self ⌝ }
+    {
+        match self {
+            Refusal::ItemTooHigh => "an item above 63",
+            Refusal::GivesNothing => "a work that gives nothing",
+            Refusal::SchemeFull => "64 works are held already",
+            Refusal::NotWanted => "the waived item is not wanted",
+            Refusal::PriceCount => "not one price for each work",
+            Refusal::PriceTooHigh => "a price above the ceiling",
+            Refusal::NoSuchWork => "a work that is not held",
+            Refusal::ListTooShort => "the list is too short",
+            Refusal::OutOfReach => "out of reach",
+            Refusal::CapacitySpent => "the capacity is spent",
+            Refusal::PaperTooLong => "a paper of more than 64 works",
+        }
+    }
+}
+
+pub impl fmt::Display for Refusal as RefusalDisplay {
+    ghost shown = { λ r. Some (reason-of r) };
+
+    fn fmt<W: fmt::Write>(&self, f: &mut fmt::Formatter<W>) -> fmt::Result {
+        f.pad(self.reason())
     }
 }

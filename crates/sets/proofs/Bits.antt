@@ -42,9 +42,9 @@ pub bits-le : (a b : ℕ) → ((k : ℕ) → bit a k ≤ bit b k) → a ≤ b
 bits-le =
     bin-ind (λ a. (b : ℕ) → ((k : ℕ) → bit a k ≤ bit b k) → a ≤ b) (λ b h. zero-le)
     (λ a ih b h.
-      let low : a % 2 ≤ b % 2 = omega (arith, h 0, bit-zero a, bit-zero b) in
-      let high : a / 2 ≤ b / 2 = ih (b / 2) (λ k. omega (arith, h (suc k), bit-suc a k, bit-suc b k)) in
-      omega arith)
+    let low : a % 2 ≤ b % 2 = omega (arith, h 0, bit-zero a, bit-zero b) in
+    let high : a / 2 ≤ b / 2 = ih (b / 2) (λ k. omega (arith, h (suc k), bit-suc a k, bit-suc b k)) in
+    omega arith)
 
 pub bits-same : (a b : ℕ) → ((k : ℕ) → bit a k ≡ bit b k) → a ≡ b
 bits-same a b h =
@@ -122,11 +122,11 @@ module _ (n base : ℕ) (xs : List ℕ) (rest : Digits (n / 2) (suc base) xs) wh
 
   low-unset : n % 2 ≡ 0 → Digits n base xs
   low-unset e = record {
-      sound = λ j h. (omega (arith, later j h .0), later j h .1);
-      whole = all;
-      rising = rest .rising;
-      count = omega (arith, rest .count, ones-step n)
-    }
+    sound = λ j h. (omega (arith, later j h .0), later j h .1);
+    whole = all;
+    rising = rest .rising;
+    count = omega (arith, rest .count, ones-step n);
+  }
     where
       all : (k : ℕ) → bit n k ≡ 1 → In (base + k) xs
       all zero h = absurd (omega (arith, bit-zero n))
@@ -134,11 +134,11 @@ module _ (n base : ℕ) (xs : List ℕ) (rest : Digits (n / 2) (suc base) xs) wh
 
   low-set : n % 2 ≡ 1 → Digits n base (base ∷ xs)
   low-set e = record {
-      sound = each;
-      whole = all;
-      rising = (λ k h. later k h .0, rest .rising);
-      count = omega (arith, rest .count, ones-step n)
-    }
+    sound = each;
+    whole = all;
+    rising = (λ k h. later k h .0, rest .rising);
+    count = omega (arith, rest .count, ones-step n);
+  }
     where
       each : (j : ℕ) → In j (base ∷ xs) → (base ≤ j) × (bit n (j - base) ≡ 1)
       each j (inl h) =
@@ -158,7 +158,7 @@ digits-listed zero n base h =
         sound = λ j f. absurd f;
         whole = λ k f. absurd (omega (arith, ap (λ x. bit x k) e, bit-none k));
         rising = tt;
-        count = ap ones (sym e)
+        count = ap ones (sym e);
       },
     )
 digits-listed (suc w) n base h = go (n % 2) refl (digits-listed w (n / 2) (suc base) (omega (arith, pow-suc 2 w)))
@@ -172,12 +172,12 @@ digits-listed (suc w) n base h = go (n % 2) refl (digits-listed w (n / 2) (suc b
 pub ones-fewer : (k n m : ℕ) → bit n k ≡ 1 → bit m k ≡ 0 → ((j : ℕ) → (j ≡ k → ⊥) → bit m j ≡ bit n j) → ones m + 1 ≡ ones n
 ones-fewer zero n m set unset rest =
     let halves : m / 2 ≡ n / 2 =
-      bits-same (m / 2) (n / 2) (λ j. sym (bit-suc m j) ∙ rest (suc j) (λ e. omega arith) ∙ bit-suc n j)
+    bits-same (m / 2) (n / 2) (λ j. sym (bit-suc m j) ∙ rest (suc j) (λ e. omega arith) ∙ bit-suc n j)
     in
     omega (arith, ones-step n, ones-step m, ap ones halves, bit-zero n, bit-zero m)
 ones-fewer (suc k) n m set unset rest =
     let less =
-      ones-fewer k (n / 2) (m / 2) (sym (bit-suc n k) ∙ set) (sym (bit-suc m k) ∙ unset)
-      (λ j ne. sym (bit-suc m j) ∙ rest (suc j) (λ e. ne (omega arith)) ∙ bit-suc n j)
+    ones-fewer k (n / 2) (m / 2) (sym (bit-suc n k) ∙ set) (sym (bit-suc m k) ∙ unset)
+    (λ j ne. sym (bit-suc m j) ∙ rest (suc j) (λ e. ne (omega arith)) ∙ bit-suc n j)
     in
     omega (arith, ones-step n, ones-step m, rest 0 (λ e. omega arith), bit-zero n, bit-zero m)

@@ -63,14 +63,13 @@ same-members P a b h g = same-set a b (λ k y. g k .1 (h k .0 y)) (λ k y. h k .
 -- a proper subset is a smaller number
 pub proper-lt : (a b : Set) → Sub a b → (k : ℕ) → Has b k → (Has a k → ⊥) → a .bits < b .bits
 proper-lt a b h k in-b not-a =
-    elim (decLt (a .bits) (b .bits))
-    [ yes lt ↦ lt
-    | no ge ↦
-        let e : b .bits ≡ a .bits = omega (arith, sub-le a b h) in
-        let P : Set → Type 0 = λ s. Has s k in
-        absurd (not-a (subst P (ap (λ (n : ℕ). record { bits = n }) e) in-b))
+    elim (decLt (a .bits) (b .bits)) [
+      | yes lt ↦ lt
+      | no ge ↦
+          let e : b .bits ≡ a .bits = omega (arith, sub-le a b h) in
+          let P : Set → Type 0 = λ s. Has s k in
+          absurd (not-a (subst P (ap (λ (n : ℕ). record { bits = n }) e) in-b))
     ]
-
 
 -- ---- what can be decided
 
@@ -81,13 +80,13 @@ lowest-below P decide zero = inr (λ k lt p. omega arith)
 lowest-below P decide (suc n) =
     ⊎-elim (λ f. inl (f .0, omega (arith, f .1), f .2, f .3))
     (λ none.
-      ⊎-elim (λ p. inl (n, omega arith, p, λ j lt. none j lt))
-      (λ not. inr (λ k lt p.
-        elim (decLt k n)
-        [ yes below ↦ none k below p
-        | no at ↦ let e : k ≡ n = omega arith in not (subst P e p)
-        ]))
-      (decide n))
+    ⊎-elim (λ p. inl (n, omega arith, p, λ j lt. none j lt))
+    (λ not. inr (λ k lt p.
+    elim (decLt k n) [
+      | yes below ↦ none k below p
+      | no at ↦ let e : k ≡ n = omega arith in not (subst P e p)
+    ]))
+    (decide n))
     (lowest-below P decide n)
 
 -- a set has a lowest member, or none
@@ -99,10 +98,10 @@ lowest-or-none s =
 -- the set whose number is 0 has no members, and any other has one
 pub none-or-some : (s : Set) → (s .bits ≡ 0 → (k : ℕ) → Has s k → ⊥) × ((s .bits ≡ 0 → ⊥) → (k : ℕ) × Has s k)
 none-or-some s = (
-    λ e k h. none-has k (subst (λ (n : ℕ). Has (record { bits = n }) k) e h),
-    λ ne. ⊎-elim (λ f. (f .0, f .1)) (λ empty. absurd (ne (omega (arith, sub-le s (record { bits = 0 }) (λ k h. absurd (empty k h))))))
+  λ e k h. none-has k (subst (λ (n : ℕ). Has (record { bits = n }) k) e h),
+  λ ne. ⊎-elim (λ f. (f .0, f .1)) (λ empty. absurd (ne (omega (arith, sub-le s (record { bits = 0 }) (λ k h. absurd (empty k h))))))
       (lowest-or-none s),
-  )
+)
 
 -- a set lies in another, or has a lowest member that the other lacks
 pub sub-or-not : (a b : Set) →
@@ -111,42 +110,42 @@ sub-or-not a b =
     ⊎-elim (λ f. inr (f .0, f .2 .0, f .2 .1, λ j lt h. ⊎-elim (λ y. y) (λ n. absurd (f .3 j lt (h, n))) (has-or-not b j)))
     (λ none. inl (λ k h. ⊎-elim (λ y. y) (λ n. absurd (none k (members-end a k h) (h, n))) (has-or-not b k)))
     (lowest-below (λ k. Has a k × (Has b k → ⊥))
-      (λ k. ⊎-elim (λ h. ⊎-elim (λ y. inr (λ p. p .1 y)) (λ n. inl (h, n)) (has-or-not b k)) (λ n. inr (λ p. n (p .0))) (has-or-not a k))
-      (a .bits))
+    (λ k. ⊎-elim (λ h. ⊎-elim (λ y. inr (λ p. p .1 y)) (λ n. inl (h, n)) (has-or-not b k)) (λ n. inr (λ p. n (p .0))) (has-or-not a k))
+    (a .bits))
 
 pub meet-or-not : (a b : Set) → Meet a b ⊎ (Meet a b → ⊥)
 meet-or-not a b =
     ⊎-elim (λ f. inl (f .0, f .2 .0, f .2 .1)) (λ none. inr (λ m. none (m .0) (members-end a (m .0) (m .1)) (m .1, m .2)))
     (lowest-below (λ k. Has a k × Has b k)
-      (λ k. ⊎-elim (λ h. ⊎-elim (λ g. inl (h, g)) (λ n. inr (λ p. n (p .1))) (has-or-not b k)) (λ n. inr (λ p. n (p .0))) (has-or-not a k))
-      (a .bits))
+    (λ k. ⊎-elim (λ h. ⊎-elim (λ g. inl (h, g)) (λ n. inr (λ p. n (p .1))) (has-or-not b k)) (λ n. inr (λ p. n (p .0))) (has-or-not a k))
+    (a .bits))
 
 -- ---- sets made of others
 
 pub union-members : (a b : Set) → Members (record { bits = bitOr (a .bits) (b .bits) }) (λ k. Has a k ⊎ Has b k)
 unfolding Has
 union-members a b k = (
-    λ h. ⊎-elim inl (λ n. let low : bit (a .bits) k ≡ 0 = omega (arith, n) in inr (omega (arith, bit-or (a .bits) (b .bits) k))) (has-or-not a k),
-    ⊎-elim (λ h. omega (arith, bit-or (a .bits) (b .bits) k)) (λ h. omega (arith, bit-or (a .bits) (b .bits) k)),
-  )
+  λ h. ⊎-elim inl (λ n. let low : bit (a .bits) k ≡ 0 = omega (arith, n) in inr (omega (arith, bit-or (a .bits) (b .bits) k))) (has-or-not a k),
+  ⊎-elim (λ h. omega (arith, bit-or (a .bits) (b .bits) k)) (λ h. omega (arith, bit-or (a .bits) (b .bits) k)),
+)
 
 pub intersection-members : (a b : Set) → Members (record { bits = bitAnd (a .bits) (b .bits) }) (λ k. Has a k × Has b k)
 unfolding Has
 intersection-members a b k = (
-    λ h. (omega (arith, bit-and (a .bits) (b .bits) k), omega (arith, bit-and (a .bits) (b .bits) k)),
-    λ h. omega (arith, bit-and (a .bits) (b .bits) k),
-  )
+  λ h. (omega (arith, bit-and (a .bits) (b .bits) k), omega (arith, bit-and (a .bits) (b .bits) k)),
+  λ h. omega (arith, bit-and (a .bits) (b .bits) k),
+)
 
 -- the numbers below n that a set lacks
 pub rest-members : (n : ℕ) (a : Set) → a .bits < 2 ^ n → Members (record { bits = 2 ^ n - 1 - a .bits }) (λ k. (k < n) × (Has a k → ⊥))
 unfolding Has
 rest-members n a h k =
-    elim (decLt k n)
-    [ yes lt ↦ (
+    elim (decLt k n) [
+      | yes lt ↦ (
         λ y. (lt, λ e. omega (arith, bit-turned n (a .bits) k h lt)),
         λ p. let low : bit (a .bits) k ≡ 0 = omega (arith, p .1) in omega (arith, bit-turned n (a .bits) k h lt),
       )
-    | no ge ↦ (
+      | no ge ↦ (
         λ y. absurd (omega (arith, bit-high n (2 ^ n - 1 - a .bits) k (omega arith) (omega arith))),
         λ p. absurd (ge (p .0)),
       )
@@ -165,33 +164,33 @@ minus-members n a b ha hb k =
 pub only-members : (k : ℕ) → Members (record { bits = 2 ^ k }) (λ j. j ≡ k)
 unfolding Has
 only-members k j = (
-    λ h. elim (decLt j k)
-      [ yes lt ↦ absurd (omega (arith, bit-weight-other k j (λ e. omega arith)))
-      | no ge ↦ elim (decLt k j)
-          [ yes gt ↦ absurd (omega (arith, bit-weight-other k j (λ e. omega arith)))
-          | no le ↦ omega arith
-          ]
-      ],
-    λ e. subst (λ (i : ℕ). bit (2 ^ k) i ≡ 1) (sym e) (bit-weight k),
-  )
+  λ h. elim (decLt j k) [
+    | yes lt ↦ absurd (omega (arith, bit-weight-other k j (λ e. omega arith)))
+    | no ge ↦ elim (decLt k j) [
+      | yes gt ↦ absurd (omega (arith, bit-weight-other k j (λ e. omega arith)))
+      | no le ↦ omega arith
+    ]
+  ],
+  λ e. subst (λ (i : ℕ). bit (2 ^ k) i ≡ 1) (sym e) (bit-weight k),
+)
 
 -- A set of the numbers below n of which P holds, taken to m, one more: with n, or as it is.
 module _ (P : ℕ → Type 0) (n m : ℕ) (s : Set) (next : m ≡ n + 1) (below : Members s (λ k. (k < n) × P k)) where
   pub filled-with : (t : Set) → P n → Members t (λ k. Has s k ⊎ (k ≡ n)) → Members t (λ k. (k < m) × P k)
   filled-with t here adds k = (
-      λ h. ⊎-elim (λ y. let p = below k .0 y in (omega (arith, p .0), p .1)) (λ e. (omega arith, subst P (sym e) here)) (adds k .0 h),
-      λ p. elim (decLt k n)
+    λ h. ⊎-elim (λ y. let p = below k .0 y in (omega (arith, p .0), p .1)) (λ e. (omega arith, subst P (sym e) here)) (adds k .0 h),
+    λ p. elim (decLt k n)
         [ yes lt ↦ adds k .1 (inl (below k .1 (lt, p .1))) | no ge ↦ adds k .1 (inr (omega (arith, p .0))) ],
-    )
+  )
 
   pub filled-over : (P n → ⊥) → Members s (λ k. (k < m) × P k)
   filled-over not k = (
-      λ h. let p = below k .0 h in (omega (arith, p .0), p .1),
-      λ p. elim (decLt k n)
-        [ yes lt ↦ below k .1 (lt, p .1)
-        | no ge ↦ let e : k ≡ n = omega (arith, p .0) in absurd (not (subst P e (p .1)))
-        ],
-    )
+    λ h. let p = below k .0 h in (omega (arith, p .0), p .1),
+    λ p. elim (decLt k n) [
+      | yes lt ↦ below k .1 (lt, p .1)
+      | no ge ↦ let e : k ≡ n = omega (arith, p .0) in absurd (not (subst P e (p .1)))
+    ],
+  )
 
 -- an added number that can be a member is one
 pub added-member : (s t : Set) (k : ℕ) → k < 64 → Members t (λ j. Has s j ⊎ ((j ≡ k) × (k < 64))) → Members t (λ j. Has s j ⊎ (j ≡ k))
@@ -205,9 +204,9 @@ set-of P decide (suc n) =
     let last : Set = record { bits = 2 ^ n } in
     let both = union-members (s .0) last in
     let adds : Members (record { bits = bitOr (s .0 .bits) (2 ^ n) }) (λ k. Has (s .0) k ⊎ (k ≡ n)) = λ k. (
-        λ h. ⊎-elim inl (λ y. inr (only-members n k .0 y)) (both k .0 h),
-        ⊎-elim (λ h. both k .1 (inl h)) (λ e. both k .1 (inr (only-members n k .1 e))),
-      )
+      λ h. ⊎-elim inl (λ y. inr (only-members n k .0 y)) (both k .0 h),
+      ⊎-elim (λ h. both k .1 (inl h)) (λ e. both k .1 (inr (only-members n k .1 e))),
+    )
     in
     let more : Set = record { bits = bitOr (s .0 .bits) (2 ^ n) } in
     ⊎-elim (λ here. (more, filled-with P n (suc n) (s .0) (omega arith) (s .1) more here adds)) (λ not. (s .0, filled-over P n (suc n) (s .0) (omega arith) (s .1) not)) (decide n)
@@ -251,6 +250,6 @@ count-without s t k y m = ones-fewer k (s .bits) (t .bits) y unset others
     others j ne =
         ⊎-elim (λ z. let low = m j .1 (z, ne) in omega arith)
         (λ not.
-          let out : Has t j → ⊥ = λ z. not (m j .0 z .0) in
-          omega (arith, not, out))
+        let out : Has t j → ⊥ = λ z. not (m j .0 z .0) in
+        omega (arith, not, out))
         (has-or-not s j)

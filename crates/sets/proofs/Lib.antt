@@ -1,4 +1,6 @@
 pub mod Bits
 mod Cases
+mod Commas
 pub mod Laws
+pub mod Listing
 pub mod Lists

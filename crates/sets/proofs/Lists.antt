@@ -30,5 +30,5 @@ in-more k xs i lt =
     let e = take-more xs i 0 lt in (
       λ h. ⊎-elim inl (⊎-elim inr (λ z. absurd z)) (in-append k (take i xs) (getD xs i 0 ∷ []) (subst Elem e h)),
       λ h. subst Elem (sym e)
-        (⊎-elim (in-front k (take i xs) (getD xs i 0 ∷ [])) (λ y. in-back k (take i xs) (getD xs i 0 ∷ []) (inl y)) h),
+          (⊎-elim (in-front k (take i xs) (getD xs i 0 ∷ [])) (λ y. in-back k (take i xs) (getD xs i 0 ∷ []) (inl y)) h),
     )

@@ -1,3 +1,4 @@
 pub mod Member
 pub mod Listed
 pub mod Steps
+pub mod Text

@@ -16,9 +16,9 @@ loop-w-again c =
     let room : c .loop-w .w < 64 = omega arith in
     let adds = added-member (c .loop-w .grown) more (c .loop-w .w) room (c .with-more .ensures) in
     let After : Set → Type 0 = λ grown. Grown-to k (c .args .chosen) (c .loop-w .w + 1) grown in
-    elim (c .if-not-is-sufficient .came)
-    [ then-not-is-sufficient w ↦
-        subst After (sym (w .grown-is)) (rw add-one (grown-with k (c .args .chosen) more (c .loop-w .inv) adds (w .if-not-is-sufficient .ensures tt)))
-    | else-not-is-sufficient w ↦
-        subst After (sym (w .grown-is)) (rw add-one (grown-over k (c .args .chosen) more (c .loop-w .inv) adds (w .if-not-is-sufficient .ensures tt)))
+    elim (c .if-not-is-sufficient .came) [
+      | then-not-is-sufficient w ↦
+          subst After (sym (w .grown-is)) (rw add-one (grown-with k (c .args .chosen) more (c .loop-w .inv) adds (w .if-not-is-sufficient .ensures tt)))
+      | else-not-is-sufficient w ↦
+          subst After (sym (w .grown-is)) (rw add-one (grown-over k (c .args .chosen) more (c .loop-w .inv) adds (w .if-not-is-sufficient .ensures tt)))
     ]

@@ -13,12 +13,12 @@ pub returns : need.returns
 returns c =
     let Left : List Work → Type 0 = λ works. Members (c .leaving .result) (λ w. (w < length works) × Leaves works (c .reach .result) w) in
     let drawn : Drawn (task-of (c .args .self .now)) (c .args .chosen) (c .leaving .result) = record {
-        grown = c .grown-grown .result;
-        reach = c .reach .result;
-        is-grown = c .grown-grown .ensures;
-        is-reach = c .reach .ensures;
-        leaving = subst Left (c .as-slice .ensures .value) (c .leaving .ensures)
-      }
+      grown = c .grown-grown .result;
+      reach = c .reach .result;
+      is-grown = c .grown-grown .ensures;
+      is-reach = c .reach .ensures;
+      leaving = subst Left (c .as-slice .ensures .value) (c .leaving .ensures);
+    }
     in
     let short = c .if-is-sufficient .ensures tt in
     (short, drawn, drawn-landmark drawn short, λ shared. drawn-apart drawn (shared .0) (shared .1) (shared .2))

@@ -11,7 +11,7 @@ use Rattle.scheme.proofs.Scheme.order.Needs as need
 pub returns : need.returns
 returns c =
     let Fills : List Work → Type 0 = λ works.
-      Filled works (c .args .chosen) (c .args .self .now .standing) (c .args .places .now) (c .place .result) (c .place .last .places)
+    Filled works (c .args .chosen) (c .args .self .now .standing) (c .args .places .now) (c .place .result) (c .place .last .places)
     in
     let filled = subst Fills (c .as-slice-works .ensures .value) (c .place .ensures) in
     (omega arith, filled, serves (task-of (c .args .self .now)) (c .args .chosen) _ (filled .placed))

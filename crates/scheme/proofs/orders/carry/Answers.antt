@@ -22,7 +22,7 @@ returns-in-Some c =
       record {
         member = over (c .in-Some .item) .0 (low .member) .0;
         lacked = over (c .in-Some .item) .0 (low .member) .1;
-        lowest = λ j lt y. ⊎-elim (λ z. z) (λ not. absurd (low .first j lt (over j .1 (y, not)))) (has-or-not (c .loop-place .held) j)
+        lowest = λ j lt y. ⊎-elim (λ z. z) (λ not. absurd (low .first j lt (over j .1 (y, not)))) (has-or-not (c .loop-place .held) j);
       },
     )
 
@@ -31,8 +31,8 @@ loop-place-again c =
     let Next : List ℕ → Type 0 = λ order. Carried (c .args .works .now) (c .args .standing) order (c .union-held .result) in
     subst Next (sym (take-more (c .args .order .now) (c .loop-place .place) 0 (c .loop-place-test .taken)))
     (carried-append (c .loop-place .inv) (onward (c .if-w-works .left)
-      (λ i y. ⊎-elim (λ z. z) (λ not. absurd (c .in-rest .ensures tt i (c .minus .ensures i .1 (y, not)))) (has-or-not (c .loop-place .held) i))
-      (c .union-held .ensures) finished))
+    (λ i y. ⊎-elim (λ z. z) (λ not. absurd (c .in-rest .ensures tt i (c .minus .ensures i .1 (y, not)))) (has-or-not (c .loop-place .held) i))
+    (c .union-held .ensures) finished))
 
 pub returns : need.returns
 returns c =

@@ -14,16 +14,16 @@ loop-w-holds c = pass-none
 pub loop-w-again : need.loop-w-again
 loop-w-again c =
     let After : Set → Type 0 = λ held. Pass (c .args .works .now) (Has (c .args .chosen)) (c .loop-w .w + 1) (c .args .from) held in
-    elim (c .if-contains .came)
-    [ then-contains·then-is-subset w ↦
-        subst After (sym (w .held-is))
-        (pass-gives (c .loop-w .inv) (c .loop-w-test .taken) (w .if-contains .ensures tt) (w .if-is-subset .ensures tt) (w .union-held .ensures))
-    | else-contains w ↦
-        subst After (sym (w .held-is))
-        (pass-over (c .loop-w .inv) (elim (w .else-contains .came)
-          [ else-contains·by·then-contains·else-is-subset v ↦
-              λ _ needs. let over = v .if-is-subset .ensures tt in over .2 (needs (over .0) (over .1))
-          | else-contains·by·else-contains v ↦ λ chosen _. v .if-contains .ensures tt chosen
+    elim (c .if-contains .came) [
+      | then-contains·then-is-subset w ↦
+          subst After (sym (w .held-is))
+          (pass-gives (c .loop-w .inv) (c .loop-w-test .taken) (w .if-contains .ensures tt) (w .if-is-subset .ensures tt) (w .union-held .ensures))
+      | else-contains w ↦
+          subst After (sym (w .held-is))
+          (pass-over (c .loop-w .inv) (elim (w .else-contains .came) [
+            | else-contains·by·then-contains·else-is-subset v ↦
+                λ _ needs. let over = v .if-is-subset .ensures tt in over .2 (needs (over .0) (over .1))
+            | else-contains·by·else-contains v ↦ λ chosen _. v .if-contains .ensures tt chosen
           ]))
     ]
 

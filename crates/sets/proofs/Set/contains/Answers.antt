@@ -9,15 +9,15 @@ use Rattle.sets.proofs.Cases.{when-by}
 use Rattle.sets.proofs.Laws.{has-below}
 use Rattle.sets.proofs.Set.contains.Needs as need
 
-pub returns-then-k-lt64 : need.returns-then-k-lt64
+pub returns-then-k-lt-LIMIT : need.returns-then-k-lt-LIMIT
 unfolding Has
-returns-then-k-lt64 c =
+returns-then-k-lt-LIMIT c =
     let low = and-mask (c .args .self .bits / 2 ^ c .args .k) 1 in
     let has = Has (c .args .self) (c .args .k) in
     when-by has (has → ⊥) _ (λ e. sym low ∙ eqb-true _ _ e) (λ e h. eqb-false _ _ e (low ∙ h))
 
-pub returns-else-k-lt64 : need.returns-else-k-lt64
-returns-else-k-lt64 c =
+pub returns-else-k-lt-LIMIT : need.returns-else-k-lt-LIMIT
+returns-else-k-lt-LIMIT c =
     let has = Has (c .args .self) (c .args .k) in
     when-by has (has → ⊥) (ltb (c .args .k) 64) (λ e. absurd (omega (arith, ltb-true (c .args .k) 64 e)))
     (λ e h. omega (arith, has-below 64 (c .args .self) (c .args .k) (omega arith) h))

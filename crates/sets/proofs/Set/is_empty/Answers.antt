@@ -13,5 +13,5 @@ returns c =
     let known = none-or-some s in
     record {
       value = when-by (s ≡ none) (s ≡ none → ⊥) _ (λ e. ap (λ (n : ℕ). record { bits = n }) (eqb-true _ _ e)) (λ e h. eqb-false _ _ e (ap (λ (x : Set). x .bits) h));
-      members = when-by _ _ _ (λ e. known .0 (eqb-true _ _ e)) (λ e. known .1 (eqb-false _ _ e))
+      members = when-by _ _ _ (λ e. known .0 (eqb-true _ _ e)) (λ e. known .1 (eqb-false _ _ e));
     }

@@ -21,7 +21,7 @@ loop-k-again c k =
     let before = c .loop-k .inv k in
     let Room : ℕ → Type 0 = λ n. n < 64 in (
       λ y. ⊎-elim (λ z. let p = before .0 z in (more .1 (inl (p .0)), p .1)) (λ p. (more .1 (inr (p .0)), subst Room (sym (p .0)) (p .1)))
-        (c .with-set .ensures k .0 y),
+          (c .with-set .ensures k .0 y),
       λ p. c .with-set .ensures k .1 (⊎-elim (λ y. inl (before .1 (y, p .1))) (λ e. inr (e, subst Room e (p .1))) (more .0 (p .0))),
     )
 

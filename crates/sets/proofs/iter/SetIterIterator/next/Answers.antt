@@ -9,6 +9,6 @@ returns c =
     record {
       steps = (low .0, low .1, rest);
       goes = record {
-        on = λ _. (tt, tt, proper-lt _ _ (λ j h. rest j .0 h .0) (c .in-Continue-k .k) (low .0 .member) (λ h. rest _ .0 h .1 refl))
-      }
+        on = λ _. (tt, tt, proper-lt _ _ (λ j h. rest j .0 h .0) (c .in-Continue-k .k) (low .0 .member) (λ h. rest _ .0 h .1 refl));
+      };
     }
