@@ -2,6 +2,8 @@
 use mathlib.Core.Path.{_≡_}
 use mathlib.Core.List.{List, [], _∷_, _++_, map}
 use Prim.Native.Nat.{ℕ}
+use lib.Chars.{codes}
+use lib.ListN.{getD}
 use Rattle.sets.specs.declared.Set.{Set}
 use Rattle.sets.specs.Member.{none}
 use Rattle.scheme.specs.declared.Work.{Work}
@@ -27,3 +29,8 @@ table = (0, 3) ∷ (0, 1) ∷ (0, 2) ∷ (3, 4) ∷ (1, 8) ∷ (4, 8) ∷ (12, 1
 -- the sample junction: nothing stands, and item 4 is wanted
 abbrev pub sample : Task
 sample = record { works = map work-of table; standing = none; wanted = set-of 16 }
+
+-- the names of its works
+abbrev pub sample-name : ℕ → List ℕ
+sample-name w =
+    getD (codes "Trench" ∷ codes "Duct" ∷ codes "Supply" ∷ codes "Controller" ∷ codes "Loops" ∷ codes "Radar" ∷ codes "Priority" ∷ []) w []

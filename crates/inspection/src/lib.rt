@@ -1,9 +1,14 @@
 //! What is printed of a scheme, and a sample junction to print.
+mod names;
+mod records;
 mod sample;
 
+pub use names::Names;
+pub use records::record;
+pub use sample::junction;
 pub use sample::Failure;
 pub use sample::FailureDebug;
 pub use sample::FromMemory;
 pub use sample::FromRefusal;
-pub use sample::NAMES;
-pub use sample::junction;
+pub use sample::SampleNames;
+pub use sample::SampleNamesNames;

@@ -1,9 +1,9 @@
 //! The sample junction: seven works that give buses priority at a junction.
-ghost use mathlib.Core.List.{map};
 ghost use mathlib.Core.Path.{_≡_};
 ghost use Rattle.std.specs.Vec.{made};
 ghost use Rattle.scheme.specs.Task.{task-of};
-ghost use Rattle.inspection.specs.Sample.{sample, Holds};
+ghost use Rattle.inspection.specs.Sample.{sample, sample-name, Holds};
+use crate::Names;
 use scheme::Refusal;
 use scheme::RefusalDebug;
 use scheme::Scheme;
@@ -13,15 +13,25 @@ use std::alloc::AllocError;
 use std::alloc::Global;
 
 /// The names of the sample junction's works.
-pub const NAMES: [&str; 7] = [
-    "Trench",
-    "Duct",
-    "Supply",
-    "Controller",
-    "Loops",
-    "Radar",
-    "Priority",
-];
+#[derive(Clone, Copy)]
+pub struct SampleNames;
+
+pub impl Names for SampleNames as SampleNamesNames {
+    ghost name = { λ _ w. sample-name w };
+
+    fn work(&self, number: usize) -> &str {
+        match number {
+            0 => "Trench",
+            1 => "Duct",
+            2 => "Supply",
+            3 => "Controller",
+            4 => "Loops",
+            5 => "Radar",
+            6 => "Priority",
+            _ => "",
+        }
+    }
+}
 
 /// The needs and gives of the works, as the numbers of the sets.
 const WORKS: [(u64, u64); 7] = [(0, 3), (0, 1), (0, 2), (3, 4), (1, 8), (4, 8), (12, 16)];

@@ -19,20 +19,3 @@ pub impl fmt::Display for Set as SetDisplay {
         f.write_str("}")
     }
 }
-
-#[cfg(test)]
-mod tests {
-    use super::*;
-    use std::test::*;
-
-    #[test]
-    fn members_in_braces(rt: LibcRuntime) -> Result<(), Fail> {
-        let heap = rt.alloc();
-        let none = Set::empty();
-        let some = Set::only(5).with(1).with(2);
-        let ends = Set::only(63).with(0);
-        check_eq(none.to_string(heap)?.as_str(), "{}")?;
-        check_eq(some.to_string(heap)?.as_str(), "{1,2,5}")?;
-        check_eq(ends.to_string(heap)?.as_str(), "{0,63}")
-    }
-}
