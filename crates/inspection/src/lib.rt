@@ -8,6 +8,8 @@ pub use records::record;
 pub use sample::junction;
 pub use sample::Failure;
 pub use sample::FailureDebug;
+pub use sample::FailureDisplay;
+pub use sample::FailureError;
 pub use sample::FromMemory;
 pub use sample::FromRefusal;
 pub use sample::SampleNames;

@@ -6,11 +6,14 @@ ghost use Rattle.inspection.specs.Sample.{sample, sample-name, Holds};
 use crate::Names;
 use scheme::Refusal;
 use scheme::RefusalDebug;
+use scheme::RefusalDisplay;
 use scheme::Scheme;
 use scheme::Work;
 use sets::Set;
 use std::alloc::AllocError;
 use std::alloc::Global;
+use std::error::Error;
+use std::fmt;
 
 /// The names of the sample junction's works.
 #[derive(Clone, Copy)]
@@ -42,6 +45,17 @@ pub enum Failure {
     Memory,
     Refused(Refusal),
 }
+
+pub impl fmt::Display for Failure as FailureDisplay {
+    fn fmt<W: fmt::Write>(&self, f: &mut fmt::Formatter<W>) -> fmt::Result {
+        match self {
+            Failure::Memory => f.write_str("no memory"),
+            Failure::Refused(refusal) => write!(f, "refused: {refusal}"),
+        }
+    }
+}
+
+pub impl Error for Failure as FailureError {}
 
 pub impl From<AllocError> for Failure as FromMemory {
     fn from(_: AllocError) -> Failure {

@@ -1,0 +1,17 @@
+//! Prints the record of the sample junction.
+use inspection::junction;
+use inspection::record;
+use inspection::FailureDebug;
+use inspection::FailureDisplay;
+use inspection::FailureError;
+use inspection::SampleNames;
+use inspection::SampleNamesNames;
+use std::error::AnyError;
+
+fn main(rt: LibcRuntime) -> Result<(), AnyError> {
+    let heap = rt.alloc();
+    let scheme = junction(heap)?;
+    let text = record(heap, &scheme, &SampleNames)?;
+    rt.print(text)?;
+    Ok(())
+}

@@ -1,0 +1,7 @@
+//! Tests of the public calls on worked junctions.
+#[cfg(test)]
+mod junctions;
+#[cfg(test)]
+mod refusing;
+#[cfg(test)]
+mod showing;
