@@ -1,11 +1,11 @@
 //! Prints the record of the sample junction.
-use inspection::junction;
-use inspection::record;
 use inspection::FailureDebug;
 use inspection::FailureDisplay;
 use inspection::FailureError;
 use inspection::SampleNames;
 use inspection::SampleNamesNames;
+use inspection::junction;
+use inspection::record;
 use std::error::AnyError;
 
 fn main(rt: LibcRuntime) -> Result<(), AnyError> {

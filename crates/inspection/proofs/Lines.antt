@@ -28,9 +28,9 @@ pub work-added : (name : ℕ → List ℕ) (start text more : List ℕ) (order :
 work-added name start text more order i lt before adds =
     let w = getD order i 0 in
     let line : work-lines name (take i order) ++ work-line w (name w) ≡ work-lines name (take (i + 1) order) =
-      sym (ap (work-lines name) (take-more order i 0 lt)
-        ∙ work-lines-append name (take i order) (w ∷ [])
-        ∙ ap (λ t. work-lines name (take i order) ++ t) (append-nil (work-line w (name w))))
+    sym (ap (work-lines name) (take-more order i 0 lt)
+    ∙ work-lines-append name (take i order) (w ∷ [])
+    ∙ ap (λ t. work-lines name (take i order) ++ t) (append-nil (work-line w (name w))))
     in
     adds
     ∙ ap (λ t. t ++ work-line w (name w)) before

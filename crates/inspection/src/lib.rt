@@ -5,7 +5,6 @@ mod sample;
 
 pub use names::Names;
 pub use records::record;
-pub use sample::junction;
 pub use sample::Failure;
 pub use sample::FailureDebug;
 pub use sample::FailureDisplay;
@@ -14,3 +13,4 @@ pub use sample::FromMemory;
 pub use sample::FromRefusal;
 pub use sample::SampleNames;
 pub use sample::SampleNamesNames;
+pub use sample::junction;

@@ -29,7 +29,13 @@ pub fn record<N: Names>(heap: Global, scheme: &Scheme, names: &N) -> Result<Stri
 }
 
 /// The text of a record, given the order of the chosen works.
-fn print<N: Names>(heap: Global, scheme: &Scheme, names: &N, chosen: Set, order: &[u8]) -> Result<String, AllocError>
+fn print<N: Names>(
+    heap: Global,
+    scheme: &Scheme,
+    names: &N,
+    chosen: Set,
+    order: &[u8],
+) -> Result<String, AllocError>
     ensures { λ r. ⌜ made r (λ s. Printed (task-of (now (scheme .entry))) (N·Names .name (now (names .entry))) chosen (now (order .entry)) (string-bytes s)) ⌝ }
 {
     let reach = scheme.reach(chosen);
@@ -42,7 +48,12 @@ fn print<N: Names>(heap: Global, scheme: &Scheme, names: &N, chosen: Set, order:
 }
 
 /// Adds a line for each work of an order.
-fn add_works<N: Names>(heap: Global, text: &mut String, names: &N, order: &[u8]) -> Result<(), AllocError>
+fn add_works<N: Names>(
+    heap: Global,
+    text: &mut String,
+    names: &N,
+    order: &[u8],
+) -> Result<(), AllocError>
     ensures { λ r. ⌜ made r (λ _. string-bytes (now (text .exit)) ≡ string-bytes (now (text .entry)) ++ work-lines (N·Names .name (now (names .entry))) (now (order .entry))) ⌝ }
 {
     for number in order {
@@ -70,5 +81,9 @@ fn add_wants(heap: Global, text: &mut String, wanted: Set, reach: Set) -> Result
 fn standing(reach: Set, item: usize) -> &'static str
     ensures { λ r. ⌜ now r ≡ standing-text (has-bit reach item) ⌝ }
 {
-    if reach.contains(item) { "in reach" } else { "out of reach" }
+    if reach.contains(item) {
+        "in reach"
+    } else {
+        "out of reach"
+    }
 }

@@ -1,6 +1,6 @@
 //! Reach, order and landmark on worked junctions.
-use inspection::junction;
 use inspection::FailureDebug;
+use inspection::junction;
 use scheme::Refusal;
 use scheme::RefusalDebug;
 use scheme::RefusalPartialEq;
@@ -28,7 +28,10 @@ fn sample_reach_and_order(rt: LibcRuntime) -> Result<(), Fail> {
     check(places == [1, 2, 3, 5, 6, 99, 99, 99])?;
     check_eq(scheme.order(Set::of(&[4, 6]), &mut places), Ok(0))?;
     let mut short = [99u8; 6];
-    check_eq(scheme.order(Set::of(&[0]), &mut short), Err(Refusal::ListTooShort))?;
+    check_eq(
+        scheme.order(Set::of(&[0]), &mut short),
+        Err(Refusal::ListTooShort),
+    )?;
     check(short == [99; 6])
 }
 
@@ -37,9 +40,18 @@ fn sample_carried_out(rt: LibcRuntime) -> Result<(), Fail> {
     let scheme = junction(rt.alloc())?;
     check_eq(scheme.carry_out(&[0, 3, 5, 6]), Ok(Set::below(5)))?;
     check_eq(scheme.carry_out(&[]), Ok(Set::empty()))?;
-    check_eq(scheme.carry_out(&[3]), Err(Stop::Lacking { place: 0, item: 0 }))?;
-    check_eq(scheme.carry_out(&[1, 1, 3]), Err(Stop::Lacking { place: 2, item: 1 }))?;
-    check_eq(scheme.carry_out(&[0, 7, 3]), Err(Stop::NotHeld { place: 1 }))
+    check_eq(
+        scheme.carry_out(&[3]),
+        Err(Stop::Lacking { place: 0, item: 0 }),
+    )?;
+    check_eq(
+        scheme.carry_out(&[1, 1, 3]),
+        Err(Stop::Lacking { place: 2, item: 1 }),
+    )?;
+    check_eq(
+        scheme.carry_out(&[0, 7, 3]),
+        Err(Stop::NotHeld { place: 1 }),
+    )
 }
 
 #[test]
@@ -49,7 +61,10 @@ fn sample_landmarks(rt: LibcRuntime) -> Result<(), Fail> {
     check_eq(scheme.landmark(Set::of(&[6])), Some(Set::of(&[4, 5])))?;
     check_eq(scheme.landmark(Set::of(&[5, 6])), Some(Set::of(&[3])))?;
     check_eq(scheme.landmark(Set::of(&[3, 5, 6])), Some(Set::of(&[0, 2])))?;
-    check_eq(scheme.landmark(Set::of(&[2, 3, 5, 6])), Some(Set::of(&[0, 1])))?;
+    check_eq(
+        scheme.landmark(Set::of(&[2, 3, 5, 6])),
+        Some(Set::of(&[0, 1])),
+    )?;
     check_eq(scheme.landmark(Set::of(&[1, 2, 3, 5, 6])), None)
 }
 

@@ -36,7 +36,9 @@ fn is_unchanged(scheme: &Scheme, works: u8) -> bool {
             return false;
         }
     }
-    scheme.works().len() == works as usize && scheme.standing() == Set::only(2) && scheme.wanted() == Set::only(5)
+    scheme.works().len() == works as usize
+        && scheme.standing() == Set::only(2)
+        && scheme.wanted() == Set::only(5)
 }
 
 #[test]
@@ -88,7 +90,11 @@ fn amendment(rt: LibcRuntime) -> Result<(), Fail> {
     check(is_unchanged(&scheme, 3))?;
     check_eq(scheme.amend(1, work(9)), Ok(()))?;
     check(scheme.works().len() == 3)?;
-    check(scheme.works()[0] == work(0) && scheme.works()[1] == work(9) && scheme.works()[2] == work(2))
+    check(
+        scheme.works()[0] == work(0)
+            && scheme.works()[1] == work(9)
+            && scheme.works()[2] == work(2),
+    )
 }
 
 #[test]
@@ -101,5 +107,9 @@ fn what_is_there_already(rt: LibcRuntime) -> Result<(), Fail> {
     check_eq(scheme.want(63), Ok(true))?;
     check(scheme.standing() == Set::of(&[2, 63]) && scheme.wanted() == Set::of(&[5, 63]))?;
     scheme.open();
-    check(scheme.works().is_empty() && scheme.standing() == Set::empty() && scheme.wanted() == Set::empty())
+    check(
+        scheme.works().is_empty()
+            && scheme.standing() == Set::empty()
+            && scheme.wanted() == Set::empty(),
+    )
 }

@@ -16,6 +16,9 @@ fn sets_in_braces(rt: LibcRuntime) -> Result<(), Fail> {
 #[test]
 fn refusals_in_words(rt: LibcRuntime) -> Result<(), Fail> {
     let heap = rt.alloc();
-    check_eq(Refusal::OutOfReach.to_string(heap)?.as_str(), "out of reach")?;
+    check_eq(
+        Refusal::OutOfReach.to_string(heap)?.as_str(),
+        "out of reach",
+    )?;
     check_eq(Refusal::OutOfReach.number(), 9)
 }

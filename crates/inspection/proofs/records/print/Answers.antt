@@ -14,17 +14,17 @@ pub returns : need.returns
 returns g c =
     let lines : Set → List ℕ = λ s. want-lines (c .reach-reach .result) (members s) in
     let pushed : string-bytes (c .push-str .last .self) ≡ string-bytes (c .add-works .last .text) ++ string-bytes (c .in-Continue-end .end) =
-      c .in-Continue-push-str .ensures tt .bytes ∙ ap (λ t. string-bytes (c .add-works .last .text) ++ t) (c .as-str .ensures .value)
+    c .in-Continue-push-str .ensures tt .bytes ∙ ap (λ t. string-bytes (c .add-works .last .text) ++ t) (c .as-str .ensures .value)
     in
     let wants : string-bytes (c .add-wants .last .text) ≡ string-bytes (c .push-str .last .self) ++ lines (c .args .scheme .now .wanted) =
-      c .in-Continue-add-wants .ensures tt ∙ ap (λ s. string-bytes (c .push-str .last .self) ++ lines s) (c .wanted .ensures)
+    c .in-Continue-add-wants .ensures tt ∙ ap (λ s. string-bytes (c .push-str .last .self) ++ lines s) (c .wanted .ensures)
     in
     record {
       reach = c .reach-reach .result;
       reached = c .reach-reach .ensures;
       lines =
-        text-joined (codes "works in order\n") (work-lines (g .N·Names .name (c .args .names .now)) (c .args .order .now)) (codes "standing at the end ")
-        (text-of (c .reach-reach .result)) (codes "\n") (string-bytes (c .in-Continue-end .end)) (lines (c .args .scheme .now .wanted))
-        (string-bytes (c .in-Continue-text .text)) (string-bytes (c .add-works .last .text)) (string-bytes (c .push-str .last .self)) (string-bytes (c .add-wants .last .text))
-        (c .in-Continue-text .ensures tt .made) (c .in-Continue-add-works .ensures tt) (c .in-Continue-end .ensures tt .made) pushed wants
+          text-joined (codes "works in order\n") (work-lines (g .N·Names .name (c .args .names .now)) (c .args .order .now)) (codes "standing at the end ")
+          (text-of (c .reach-reach .result)) (codes "\n") (string-bytes (c .in-Continue-end .end)) (lines (c .args .scheme .now .wanted))
+          (string-bytes (c .in-Continue-text .text)) (string-bytes (c .add-works .last .text)) (string-bytes (c .push-str .last .self)) (string-bytes (c .add-wants .last .text))
+          (c .in-Continue-text .ensures tt .made) (c .in-Continue-add-works .ensures tt) (c .in-Continue-end .ensures tt .made) pushed wants;
     }

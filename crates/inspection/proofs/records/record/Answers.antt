@@ -27,6 +27,6 @@ returns g c =
       );
       order = order;
       placed = subst First (sym (sub-zero (c .in-Ok .placed))) (c .in-Ok .ensures tt .1 .placed);
-      printed = printed
+      printed = printed;
     })
     (c .print .ensures)
