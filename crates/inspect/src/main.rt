@@ -7,11 +7,12 @@ use inspection::SampleNamesNames;
 use inspection::junction;
 use inspection::record;
 use std::error::AnyError;
+use std::io::Write;
 
 fn main(rt: LibcRuntime) -> Result<(), AnyError> {
     let heap = rt.alloc();
     let scheme = junction(heap)?;
     let text = record(heap, &scheme, &SampleNames)?;
-    rt.print(text)?;
+    rt.stdout().write_all(text.as_slice())?;
     Ok(())
 }

@@ -31,6 +31,11 @@ abbrev pub sample : Task
 sample = record { works = map work-of table; standing = none; wanted = set-of 16 }
 
 -- the names of its works
-abbrev pub sample-name : ℕ → List ℕ
-sample-name w =
+abbrev pub work-name : ℕ → List ℕ
+work-name w =
     getD (codes "Trench" ∷ codes "Duct" ∷ codes "Supply" ∷ codes "Controller" ∷ codes "Loops" ∷ codes "Radar" ∷ codes "Priority" ∷ []) w []
+
+-- the names of its items
+abbrev pub item-name : ℕ → List ℕ
+item-name i =
+    getD (codes "Duct" ∷ codes "Supply" ∷ codes "Controller" ∷ codes "Detection" ∷ codes "Priority" ∷ []) i []

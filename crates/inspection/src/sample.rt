@@ -2,7 +2,7 @@
 ghost use mathlib.Core.Path.{_≡_};
 ghost use Rattle.std.specs.Vec.{made};
 ghost use Rattle.scheme.specs.Task.{task-of};
-ghost use Rattle.inspection.specs.Sample.{sample, sample-name, Holds};
+ghost use Rattle.inspection.specs.Sample.{sample, work-name, item-name, Holds};
 use crate::Names;
 use scheme::Refusal;
 use scheme::RefusalDebug;
@@ -15,23 +15,36 @@ use std::alloc::Global;
 use std::error::Error;
 use std::fmt;
 
-/// The names of the sample junction's works.
+/// The names of the sample junction's works and items.
 #[derive(Clone, Copy)]
 pub struct SampleNames;
 
 pub impl Names for SampleNames as SampleNamesNames {
-    ghost name = { λ _ w. sample-name w };
+    ghost works = { λ _ w. work-name w };
 
-    fn work(&self, number: usize) -> &str {
+    ghost items = { λ _ i. item-name i };
+
+    fn work(&self, number: usize) -> &[u8] {
         match number {
-            0 => "Trench",
-            1 => "Duct",
-            2 => "Supply",
-            3 => "Controller",
-            4 => "Loops",
-            5 => "Radar",
-            6 => "Priority",
-            _ => "",
+            0 => b"Trench",
+            1 => b"Duct",
+            2 => b"Supply",
+            3 => b"Controller",
+            4 => b"Loops",
+            5 => b"Radar",
+            6 => b"Priority",
+            _ => b"",
+        }
+    }
+
+    fn item(&self, number: usize) -> &[u8] {
+        match number {
+            0 => b"Duct",
+            1 => b"Supply",
+            2 => b"Controller",
+            3 => b"Detection",
+            4 => b"Priority",
+            _ => b"",
         }
     }
 }

@@ -1,31 +1,36 @@
 use mathlib.Core.List.{List, _++_, append-nil}
-use mathlib.Core.Path.{_≡_, sym, ap, _∙_}
-use Rattle.std.specs.Of.String.{string-bytes}
+use mathlib.Core.Path.{sym, ap, _∙_}
+use Prim.Native.Nat.{ℕ}
+use lib.Chars.{codes}
+use Rattle.std.specs.Of.Vec.{vec-items}
 use Rattle.sets.specs.declared.Set.{Set}
 use Rattle.sets.specs.declared.iter.SetIter.{SetIter}
-use Rattle.sets.specs.Listed.{members}
+use Rattle.sets.specs.Listed.{members, has-bit}
 use Rattle.sets.proofs.Listing.{members-none}
-use Rattle.inspection.specs.Record.{want-lines}
-use Rattle.inspection.proofs.Lines.{want-added}
+use Rattle.inspection.specs.Record.{entry, marked, lines, reach-text}
+use Rattle.inspection.proofs.Lines.{next-member, three-parts}
 use Rattle.inspection.proofs.records.add_wants.Needs as need
 
 pub loop-item-again : need.loop-item-again
-loop-item-again c =
-    let pushed = c .in-Continue-push-str .ensures tt .bytes in
-    let line = c .in-Continue-line .ensures tt .made in
-    let lent = c .as-str .ensures .value in
-    let found = c .standing-found .ensures in
-    want-added (c .args .reach) (c .loop-item .item-iterator .rest) (c .next .last .self .rest) (c .in-Some .item)
-    (string-bytes (c .loop-item .text)) (string-bytes (c .push-str .last .self)) (c .in-Some .ensures tt .steps) (cc)
+loop-item-again g c =
+    let line : ℕ → List ℕ = λ i. marked (reach-text (has-bit (c .args .reach) i)) i (g .N·Names .items (c .args .names .now) i) in
+    let i = c .in-Some .item in
+    next-member line (c .loop-item .item-iterator .rest) (c .next .last .self .rest) i (vec-items (c .loop-item .text)) (vec-items (c .add-entry .last .text))
+    (c .in-Some .ensures tt .steps)
+    (three-parts (vec-items (c .loop-item .text)) (reach-text (has-bit (c .args .reach) i)) (codes " ") (entry i (g .N·Names .items (c .args .names .now) i))
+    (vec-items (c .extend-from-slice .last .self)) (vec-items (c .extend-from-slice-in-loop-item .last .self)) (vec-items (c .add-entry .last .text))
+    (c .in-Continue-extend-from-slice .ensures tt .items ∙ ap (λ t. vec-items (c .loop-item .text) ++ t) (c .word .ensures))
+    (c .in-Continue-extend-from-slice-2 .ensures tt .items)
+    (c .in-Continue-add-entry .ensures tt ∙ ap (λ name. vec-items (c .extend-from-slice-in-loop-item .last .self) ++ entry i name) (c .item .ensures)))
     ∙ c .loop-item .inv
 
 pub returns : need.returns
-returns c =
-    let none = members-none (c .loop-item .item-iterator .rest) (c .in-None .ensures tt .steps .0) in
-    let lines = want-lines (c .args .reach) in
-    let text = string-bytes (c .loop-item .text) in
+returns g c =
+    let line : ℕ → List ℕ = λ i. marked (reach-text (has-bit (c .args .reach) i)) i (g .N·Names .items (c .args .names .now) i) in
+    let text = vec-items (c .loop-item .text) in
+    let start = vec-items (c .args .text .now) in
     sym (append-nil text)
-    ∙ ap (λ xs. text ++ lines xs) (sym none)
+    ∙ ap (λ xs. text ++ lines line xs) (sym (members-none (c .loop-item .item-iterator .rest) (c .in-None .ensures tt .steps .0)))
     ∙ c .loop-item .inv
-    ∙ ap (λ (it : SetIter). string-bytes (c .args .text .now) ++ lines (members (it .rest))) (c .into-iter-item-iterator .ensures .becomes)
-    ∙ ap (λ (s : Set). string-bytes (c .args .text .now) ++ lines (members s)) (c .iter-item-items .ensures)
+    ∙ ap (λ (it : SetIter). start ++ lines line (members (it .rest))) (c .into-iter-item-iterator .ensures .becomes)
+    ∙ ap (λ (s : Set). start ++ lines line (members s)) (c .iter-item-items .ensures)

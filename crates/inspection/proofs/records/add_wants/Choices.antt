@@ -1,11 +1,11 @@
 use mathlib.Core.List.{_++_}
 use mathlib.Core.Path.{_≡_}
-use Rattle.std.specs.Of.String.{string-bytes}
-use Rattle.sets.specs.Listed.{members}
-use Rattle.inspection.specs.Record.{want-lines}
+use Rattle.std.specs.Of.Vec.{vec-items}
+use Rattle.sets.specs.Listed.{members, has-bit}
+use Rattle.inspection.specs.Record.{marked, lines, reach-text}
 use Rattle.inspection.proofs.records.add_wants.Given as given
 
 abbrev pub Inv-loop-item : given.InvT-loop-item
-Inv-loop-item l =
-    string-bytes (l .text) ++ want-lines (l .reach) (members (l .item-iterator .rest))
-    ≡ string-bytes (l .entry .text) ++ want-lines (l .reach) (members (l .entry .item-iterator .rest))
+Inv-loop-item g l =
+    vec-items (l .text) ++ lines (λ i. marked (reach-text (has-bit (l .reach) i)) i (g .N·Names .items (l .names) i)) (members (l .item-iterator .rest))
+    ≡ vec-items (l .entry .text) ++ lines (λ i. marked (reach-text (has-bit (l .reach) i)) i (g .N·Names .items (l .names) i)) (members (l .entry .item-iterator .rest))

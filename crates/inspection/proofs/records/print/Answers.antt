@@ -2,29 +2,31 @@ use mathlib.Core.List.{List, _++_}
 use mathlib.Core.Path.{_≡_, ap, _∙_}
 use Prim.Native.Nat.{ℕ}
 use lib.Chars.{codes}
-use Rattle.std.specs.Of.String.{string-bytes}
+use Rattle.std.specs.Of.Vec.{vec-items}
 use Rattle.sets.specs.declared.Set.{Set}
-use Rattle.sets.specs.Listed.{members}
-use Rattle.sets.specs.Text.{text-of}
-use Rattle.inspection.specs.Record.{work-lines, want-lines}
-use Rattle.inspection.proofs.Lines.{text-joined}
+use Rattle.sets.specs.Listed.{members, has-bit}
+use Rattle.inspection.specs.Record.{entry, marked, lines, reach-text}
+use Rattle.inspection.proofs.Lines.{six-parts}
 use Rattle.inspection.proofs.records.print.Needs as need
 
 pub returns : need.returns
 returns g c =
-    let lines : Set → List ℕ = λ s. want-lines (c .reach-reach .result) (members s) in
-    let pushed : string-bytes (c .push-str .last .self) ≡ string-bytes (c .add-works .last .text) ++ string-bytes (c .in-Continue-end .end) =
-    c .in-Continue-push-str .ensures tt .bytes ∙ ap (λ t. string-bytes (c .add-works .last .text) ++ t) (c .as-str .ensures .value)
-    in
-    let wants : string-bytes (c .add-wants .last .text) ≡ string-bytes (c .push-str .last .self) ++ lines (c .args .scheme .now .wanted) =
-    c .in-Continue-add-wants .ensures tt ∙ ap (λ s. string-bytes (c .push-str .last .self) ++ lines s) (c .wanted .ensures)
-    in
+    let reach = c .reach-reach .result in
+    let items = g .N·Names .items (c .args .names .now) in
+    let work-line : ℕ → List ℕ = λ w. entry w (g .N·Names .works (c .args .names .now) w) in
+    let item-line : ℕ → List ℕ = λ i. entry i (items i) in
+    let want-line : ℕ → List ℕ = λ i. marked (reach-text (has-bit reach i)) i (items i) in
+    let before = vec-items (c .extend-from-slice-3 .last .self) in
     record {
-      reach = c .reach-reach .result;
+      reach = reach;
       reached = c .reach-reach .ensures;
-      lines =
-          text-joined (codes "works in order\n") (work-lines (g .N·Names .name (c .args .names .now)) (c .args .order .now)) (codes "standing at the end ")
-          (text-of (c .reach-reach .result)) (codes "\n") (string-bytes (c .in-Continue-end .end)) (lines (c .args .scheme .now .wanted))
-          (string-bytes (c .in-Continue-text .text)) (string-bytes (c .add-works .last .text)) (string-bytes (c .push-str .last .self)) (string-bytes (c .add-wants .last .text))
-          (c .in-Continue-text .ensures tt .made) (c .in-Continue-add-works .ensures tt) (c .in-Continue-end .ensures tt .made) pushed wants;
+      written =
+          six-parts (codes "works in order\n") (lines work-line (c .args .order .now)) (codes "standing at the end\n")
+          (lines item-line (members reach)) (codes "wanted\n") (lines want-line (members (c .args .scheme .now .wanted)))
+          (vec-items (c .new-text .result)) (vec-items (c .extend-from-slice .last .self)) (vec-items (c .add-works .last .text))
+          (vec-items (c .extend-from-slice-2 .last .self)) (vec-items (c .add-items .last .text)) before (vec-items (c .add-wants .last .text))
+          (c .new-text .ensures .items) (c .in-Continue-extend-from-slice .ensures tt .items) (c .in-Continue-add-works .ensures tt)
+          (c .in-Continue-extend-from-slice-2 .ensures tt .items) (c .in-Continue-add-items .ensures tt)
+          (c .in-Continue-extend-from-slice-3 .ensures tt .items)
+          (c .in-Continue-add-wants .ensures tt ∙ ap (λ (s : Set). before ++ lines want-line (members s)) (c .wanted .ensures));
     }

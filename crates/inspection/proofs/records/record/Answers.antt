@@ -3,7 +3,7 @@ use Prim.Native.Nat.{ℕ, _-_}
 use native.Mathlib.Nat.{sub-zero}
 use native.Mathlib.Omega.{arith}
 use lib.ListN.{length, take}
-use Rattle.std.specs.Of.String.{string-bytes}
+use Rattle.std.specs.Of.Vec.{vec-items}
 use Rattle.scheme.specs.Orders.{Placed}
 use Rattle.scheme.specs.Task.{task-of}
 use Rattle.inspection.specs.Record.{Printed, Recorded}
@@ -13,13 +13,14 @@ use Rattle.inspection.proofs.records.record.Needs as need
 pub returns : need.returns
 returns g c =
     let k = task-of (c .args .scheme .now) in
-    let name = g .N·Names .name (c .args .names .now) in
+    let works = g .N·Names .works (c .args .names .now) in
+    let items = g .N·Names .items (c .args .names .now) in
     let order = take (c .in-Ok .placed - 0) (c .order .last .places) in
     let First : ℕ → Type 0 = λ n. Placed (k .works) (c .below-all .result) (k .standing) (take n (c .order .last .places)) in
     let long : length (c .works .result .now) ≡ length (k .works) = ap length (c .works .ensures .value) in
     let bound = c .works .ensures .bound in
-    made-to (c .print .result) (λ s. Printed k name (c .below-all .result) order (string-bytes s)) (λ s. Recorded k name (string-bytes s))
-    (λ s printed. record {
+    made-to (c .print .result) (λ v. Printed k works items (c .below-all .result) order (vec-items v)) (λ v. Recorded k works items (vec-items v))
+    (λ v printed. record {
       all = c .below-all .result;
       every = λ w. (
         λ y. omega (arith, c .below-all .ensures w .0 y .0),

@@ -1,0 +1,5 @@
+pub mod Amounts
+pub mod HoursFirstScale
+pub mod LongestClosure
+pub mod Numbers
+pub mod PoundsScale
