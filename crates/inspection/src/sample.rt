@@ -6,14 +6,11 @@ ghost use Rattle.inspection.specs.Sample.{sample, work-name, item-name, Holds}
 use crate::Names;
 use scheme::Refusal;
 use scheme::RefusalDebug;
-use scheme::RefusalDisplay;
 use scheme::Scheme;
 use scheme::Work;
 use sets::Set;
 use std::alloc::AllocError;
 use std::alloc::Global;
-use std::error::Error;
-use std::fmt;
 
 /// The names of the sample junction's works and items.
 #[derive(Clone, Copy)]
@@ -58,17 +55,6 @@ pub enum Failure {
     Memory,
     Refused(Refusal),
 }
-
-pub impl fmt::Display for Failure as FailureDisplay {
-    fn fmt<W: fmt::Write>(&self, f: &mut fmt::Formatter<W>) -> fmt::Result {
-        match self {
-            Failure::Memory => f.write_str("no memory"),
-            Failure::Refused(refusal) => write!(f, "refused: {refusal}"),
-        }
-    }
-}
-
-pub impl Error for Failure as FailureError {}
 
 pub impl From<AllocError> for Failure as FromMemory {
     fn from(_: AllocError) -> Failure {

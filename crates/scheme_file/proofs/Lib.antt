@@ -1,0 +1,12 @@
+mod Digits
+mod Frames
+mod Goings
+mod Comings
+mod Fills
+mod Adds
+mod Wholes
+mod Vets
+mod Puts
+mod Rewrites
+mod Keeping
+mod Uniques

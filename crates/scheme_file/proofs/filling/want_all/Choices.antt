@@ -1,0 +1,11 @@
+use mathlib.Core.Path.{_≡_}
+use Rattle.scheme.specs.Edits.{with-wanted}
+use Rattle.scheme.specs.Task.{task-of}
+use Rattle.scheme_file.specs.Passes.{Adding}
+use Rattle.scheme_file.proofs.filling.want_all.Given as given
+
+-- the items so far are added, and the others are to come
+abbrev pub Inv-loop-item : given.InvT-loop-item
+Inv-loop-item l =
+    Adding (l .entry .item-iterator .rest) (task-of (l .scheme) .wanted) (l .item-iterator .rest)
+    × (task-of (l .scheme) ≡ with-wanted (task-of (l .entry .scheme)) (task-of (l .scheme) .wanted))

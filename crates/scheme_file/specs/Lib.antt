@@ -1,0 +1,9 @@
+pub mod Causes
+pub mod Kinds
+pub mod Bytes
+pub mod Format
+pub mod Rules
+pub mod Contents
+pub mod Faults
+pub mod Passes
+pub mod Rewriting
