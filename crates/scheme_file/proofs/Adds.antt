@@ -1,7 +1,7 @@
 -- The items of a set added one after another.
-use mathlib.Core.Path.{_≡_, refl, sym, subst}
+use mathlib.Core.Path.{_≡_, sym, subst}
 use mathlib.Core.Bool.{Bool}
-use mathlib.Core.Logic.{_⊎_, inl, inr, ⊎-elim}
+use mathlib.Core.Logic.{inl, inr, ⊎-elim}
 use Prim.Native.Nat.{ℕ, _<_}
 use native.Mathlib.Omega.{arith}
 use native.Mathlib.Decide.{ℕ-discrete}
@@ -26,12 +26,12 @@ pub adding-more :
     Added held i r held′ →
     Adding items held′ rest′
 adding-more items held rest held′ rest′ i (Ok b) a low lt less more k = (
-    λ h. ⊎-elim (λ y. inl (more .1 k .1 (inl y)))
+  λ h. ⊎-elim (λ y. inl (more .1 k .1 (inl y)))
       (λ y. elim (ℕ-discrete k i) [ yes e ↦ inl (more .1 k .1 (inr e)) | no ne ↦ inr (less k .1 (y, ne)) ]) (a k .0 h),
-    ⊎-elim
+  ⊎-elim
       (λ h. ⊎-elim (λ y. a k .1 (inl y)) (λ e. a k .1 (inr (subst (λ j. Has rest j) (sym e) (low .member)))) (more .1 k .0 h))
       (λ h. a k .1 (inr (less k .0 h .0))),
-  )
+)
 adding-more items held rest held′ rest′ i (Err x) a low lt less more k = absurd (omega (arith, more .1))
 
 pub adding-all : (items held rest : Set) → Adding items held rest → ((k : ℕ) → Has rest k → ⊥) → held ≡ items

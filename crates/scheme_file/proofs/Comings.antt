@@ -1,11 +1,11 @@
 -- Which record comes next in a file that is known to be good.
-use mathlib.Core.Path.{_≡_, refl, sym, ap, ap₂, subst, _∙_}
+use mathlib.Core.Path.{_≡_, refl, sym, ap, subst, _∙_}
 use mathlib.Core.List.{List, [], _∷_, _++_}
-use Prim.Native.Nat.{ℕ, suc, _+_, _-_, _≤_, _<_}
+use Prim.Native.Nat.{ℕ, _+_, _≤_, _<_}
 use native.Mathlib.Omega.{arith}
-use lib.ListN.{length, take, drop, getD}
+use lib.ListN.{length, drop}
 use Rattle.std.specs.declared.option.Option.the-variants.{Some}
-use Rattle.std.proofs.shelf.Lists.{append-assoc, drop-drop, drop-at}
+use Rattle.std.proofs.shelf.Lists.{drop-drop, drop-at}
 use Rattle.scheme_file.specs.declared.kinds.Kind.{Kind}
 use Rattle.scheme_file.specs.declared.kinds.Kind.the-variants.{Head, Item, Work, Standing, Wanted, End}
 use Rattle.scheme_file.specs.declared.stages.Stage.the-variants.{Closed}
@@ -13,7 +13,7 @@ use Rattle.scheme_file.specs.declared.places.Place.{Place}
 use Rattle.scheme_file.specs.Format.{Record, bytes-of, encode}
 use Rattle.scheme_file.specs.Kinds.{Next, code-of, highest, lowest, named}
 use Rattle.scheme_file.specs.Passes.{Ahead, Between}
-use Rattle.scheme_file.specs.Rules.{Goes, Kept, after, record-rules, start}
+use Rattle.scheme_file.specs.Rules.{Goes, Kept, after, record-rules}
 
 -- ---- the counts of a place
 
@@ -93,14 +93,16 @@ coming {bytes} {at} {p} {last} a open-yet = go (a .left) (a .good) (a .same)
     go (r ∷ rs) good same =
         let n = 4 + length (r .body) in
         let rest : drop (at + n) bytes ≡ bytes-of rs =
-          sym (drop-drop n at bytes) ∙ ap (drop n) same ∙ drop-at (encode r) (bytes-of rs) n (omega arith)
-        in
-        (r .kind, record {
-          body = r .body;
-          kept = good .0;
-          same = same ∙ ap (λ l. encode r ++ l) (sym rest);
-          ahead = record { left = rs; good = good .1; closed = a .closed; same = rest }
-        })
+        sym (drop-drop n at bytes) ∙ ap (drop n) same ∙ drop-at (encode r) (bytes-of rs) n (omega arith)
+        in (
+          r .kind,
+          record {
+            body = r .body;
+            kept = good .0;
+            same = same ∙ ap (λ l. encode r ++ l) (sym rest);
+            ahead = record { left = rs; good = good .1; closed = a .closed; same = rest };
+          },
+        )
 
 open-between : {p : Place} → Between p → p .stage ≡ Closed → ⊥
 open-between b e = omega (arith, ap highest e, b .high)

@@ -1,7 +1,7 @@
 -- Numbers in bytes, the lowest byte first.
 use mathlib.Core.Path.{_≡_, refl, sym, ap, ap₂, _∙_}
-use mathlib.Core.List.{List, [], _∷_, _++_}
-use Prim.Native.Nat.{ℕ, zero, suc, _+_, _-_, _*_, _/_, _%_, _^_, _≤_, _<_}
+use mathlib.Core.List.{List, [], _∷_}
+use Prim.Native.Nat.{ℕ, zero, suc, _+_, _*_, _/_, _%_, _^_, _≤_, _<_}
 use native.Mathlib.Omega.{arith}
 use native.Mathlib.Nat.{add-zero, add-suc, div-div-eq-div-mul, pow-suc}
 use lib.ListN.{length, take, drop, getD}
@@ -47,14 +47,22 @@ pub value-long : (xs : List ℕ) (at : ℕ) → at + 8 ≤ length xs →
 value-long xs at h =
     let first = rw add-zero at (value-step xs at 7 0 (omega arith)) in
     let step : (n k : ℕ) → k < 8 → value (take (suc n) (drop (at + k) xs)) ≡ getD xs (at + k) 0 + 256 * value (take n (drop (at + suc k) xs)) =
-      λ n k lt. value-step xs at n k (omega arith)
+    λ n k lt. value-step xs at n k (omega arith)
     in
-    omega (arith, first, step 6 1 (omega arith), step 5 2 (omega arith), step 4 3 (omega arith), step 3 4 (omega arith),
-      step 2 5 (omega arith), step 1 6 (omega arith), step 0 7 (omega arith))
-
+    omega (
+      arith,
+      first,
+      step 6 1 (omega arith),
+      step 5 2 (omega arith),
+      step 4 3 (omega arith),
+      step 3 4 (omega arith),
+      step 2 5 (omega arith),
+      step 1 6 (omega arith),
+      step 0 7 (omega arith),
+    )
 
 pub le-long : (x : ℕ) →
     le 8 x
     ≡ x % 256 ∷ x / 256 % 256 ∷ x / 65536 % 256 ∷ x / 16777216 % 256 ∷ x / 4294967296 % 256 ∷ x / 1099511627776 % 256
-      ∷ x / 281474976710656 % 256 ∷ x / 72057594037927936 % 256 ∷ []
+    ∷ x / 281474976710656 % 256 ∷ x / 72057594037927936 % 256 ∷ []
 le-long x = simp div-div-eq-div-mul

@@ -2,13 +2,13 @@
 use mathlib.Core.Path.{_≡_, refl, sym, ap, ap₂, subst, _∙_}
 use mathlib.Core.List.{List, [], _∷_, _++_, map}
 use mathlib.Core.Logic.{⊎-elim}
-use Prim.Native.Nat.{ℕ, suc, _+_, _-_, _*_, _/_, _%_, _^_, _≤_, _<_}
+use Prim.Native.Nat.{ℕ, suc, _+_, _^_, _≤_, _<_}
 use native.Mathlib.Omega.{arith}
 use native.Mathlib.Nat.{add-zero}
 use lib.ListN.{length, take, drop, getD, set}
 use Rattle.std.specs.shelf.Lists.{All}
 use Rattle.std.proofs.shelf.Elements.{all-push}
-use Rattle.std.proofs.shelf.Lists.{append-assoc, drop-drop, drop-at, take-at, getD-drop, length-append, length-drop, length-push, length-take-le, map-push, drop-set-lt, drop-append-le, take-all, take-append-drop, take-append-le}
+use Rattle.std.proofs.shelf.Lists.{append-assoc, drop-drop, take-at, getD-drop, length-append, length-drop, length-push, length-take-le, map-push, drop-set-lt, drop-append-le, take-all, take-append-drop, take-append-le}
 use Rattle.std.specs.declared.result.Result.{Result}
 use Rattle.std.specs.declared.result.Result.the-variants.{Ok, Err}
 use Rattle.sets.specs.declared.Set.{Set}
@@ -23,11 +23,11 @@ use Rattle.scheme_file.specs.declared.places.Place.{Place}
 use Rattle.scheme_file.specs.declared.rows.ItemRow.{ItemRow}
 use Rattle.scheme_file.specs.declared.rows.WorkRow.{WorkRow}
 use Rattle.scheme_file.specs.Bytes.{le, value}
-use Rattle.scheme_file.specs.Contents.{Giving, Lies, Rises, Sound-entry, Sound-item, Sound-name, Reads, bytes-at, entries, entry-in, item-in}
+use Rattle.scheme_file.specs.Contents.{Giving, Lies, Rises, Sound-entry, Sound-item, Reads, bytes-at, entries, entry-in, item-in}
 use Rattle.scheme_file.specs.Format.{Named, Record, bytes-of, encode, item-record, mark, set-record, work-record}
 use Rattle.scheme_file.specs.Kinds.{Allowed, lowest}
-use Rattle.scheme_file.specs.Passes.{Ahead, Between, Entering, Itemed, Listed, RowAt, WorkAt, Worked, above}
-use Rattle.scheme_file.specs.Rules.{Kept, Text, after, record-rules, size}
+use Rattle.scheme_file.specs.Passes.{Entering, Itemed, Listed, RowAt, WorkAt, Worked, above}
+use Rattle.scheme_file.specs.Rules.{Text, after, size}
 use Rattle.scheme_file.proofs.Comings.{Coming, item-comes, none-comes, only-comes, standing-comes, work-comes}
 use Rattle.scheme_file.proofs.Goings.{bytes-append, bytes-more}
 
@@ -50,7 +50,7 @@ module _ {k : Kind} {bytes : List ℕ} {at : ℕ} {p last : Place} where
   size-here c =
       ap size (c .same)
       ∙ size-encode (record { kind = k; body = c .body }) (drop (at + (4 + length (c .body))) bytes)
-        (omega (arith, short-body k (length (c .body)) (c .kept .0)))
+      (omega (arith, short-body k (length (c .body)) (c .kept .0)))
 
   pub room-here : (c : Coming k bytes at p last) → at + (4 + length (c .body)) ≤ length bytes
   room-here c =
@@ -107,10 +107,12 @@ item-is {bytes} {at} row c number start len =
         let long : row .name .len ≡ length name = omega arith in
         let five : at + 5 ≡ (at + 4) + 1 = omega arith in
         let tail : drop (at + 5) bytes ≡ name ++ t =
-          ap (λ i. drop i bytes) five ∙ sym (drop-drop 1 (at + 4) bytes) ∙ ap (drop 1) e
-        in
-        (ap₂ _∷_ (number ∙ first)
-          (ap₂ (λ n i. take n (drop i bytes)) long start ∙ ap (take (length name)) tail ∙ take-at name t (length name) refl), omega arith)
+        ap (λ i. drop i bytes) five ∙ sym (drop-drop 1 (at + 4) bytes) ∙ ap (drop 1) e
+        in (
+          ap₂ _∷_ (number ∙ first)
+              (ap₂ (λ n i. take n (drop i bytes)) long start ∙ ap (take (length name)) tail ∙ take-at name t (length name) refl),
+          omega arith,
+        )
 
 -- one more item
 pub item-step :
@@ -133,17 +135,17 @@ item-step {bytes} {at} {p} rows row c l number start len next e =
     let kept = c .kept in
     let long : suc (length (x .name)) ≡ length (c .body) = ap length (is .0) in
     record {
-      front = subst Front (sym (map-push item-record xs x) ∙ ap (map item-record) names) 
-        (front-more bytes (mark Kind.Head ∷ map item-record xs) (item-record x) next c (l .front) (ap (λ b. record { kind = Kind.Item; body = b }) (is .0)) e);
+      front = subst Front (sym (map-push item-record xs x) ∙ ap (map item-record) names)
+          (front-more bytes (mark Kind.Head ∷ map item-record xs) (item-record x) next c (l .front) (ap (λ b. record { kind = Kind.Item; body = b }) (is .0)) e);
       rising = subst (Rises 0) names (rises-more 0 xs x (l .rising) (omega (arith, l .least, kept .1 .1 .0)));
       least = ap (λ n. n + 1) (sym number-is) ∙ sym (above-more 0 xs x) ∙ ap (above 0) names;
       sound = subst (All Sound-item) names (all-push Sound-item xs x (l .sound) (record {
         low = omega (arith, kept .1 .1 .1 .1 .0);
-        name = record { some = omega (arith, kept .0); short = omega (arith, kept .0); text = subst Text (sym name-is) (kept .1 .1 .1 .0) }
+        name = record { some = omega (arith, kept .0); short = omega (arith, kept .0); text = subst Text (sym name-is) (kept .1 .1 .1 .0) };
       }));
       lie = all-push (λ (r : ItemRow). Lies bytes (r .name)) rows row (l .lie) (omega (arith, room-here c));
       items = ap (λ n. n + 1) (l .items) ∙ sym (length-push rows row);
-      works = l .works
+      works = l .works;
     }
 
 -- the next item of a file that has n of them
@@ -165,8 +167,15 @@ part-here {bytes} {at} c i n room =
 -- a list in five parts
 five-parts : (xs : List ℕ) → take 8 xs ++ (take 8 (drop 8 xs) ++ (take 2 (drop 16 xs) ++ (take 2 (drop 18 xs) ++ drop 20 xs))) ≡ xs
 five-parts xs =
-    rw (← drop-drop 2 18 xs, take-append-drop 2 (drop 18 xs), ← drop-drop 2 16 xs, take-append-drop 2 (drop 16 xs), ← drop-drop 8 8 xs,
-      take-append-drop 8 (drop 8 xs), take-append-drop 8 xs) refl
+    rw (
+      ← drop-drop 2 18 xs,
+      take-append-drop 2 (drop 18 xs),
+      ← drop-drop 2 16 xs,
+      take-append-drop 2 (drop 16 xs),
+      ← drop-drop 8 8 xs,
+      take-append-drop 8 (drop 8 xs),
+      take-append-drop 8 xs,
+    ) refl
 
 -- a work with its row is the work's record
 pub work-is :
@@ -178,8 +187,8 @@ work-is {bytes} {at} w row c h r =
     let long : row .name .len + 20 ≡ length (c .body) = omega (arith, size-here c, r .len) in
     let room = c .kept .0 in
     let name : bytes-at bytes (row .name) ≡ drop 20 (c .body) =
-      ap (λ i. take (row .name .len) (drop i bytes)) (r .start) ∙ part-here c 20 (row .name .len) (omega arith)
-      ∙ take-all (row .name .len) (drop 20 (c .body)) (simp length-drop (omega arith))
+    ap (λ i. take (row .name .len) (drop i bytes)) (r .start) ∙ part-here c 20 (row .name .len) (omega arith)
+    ∙ take-all (row .name .len) (drop 20 (c .body)) (simp length-drop (omega arith))
     in
     let needs = h .needs ∙ part-here c 0 8 (omega arith) in
     let gives = h .gives ∙ part-here c 8 8 (omega arith) in
@@ -211,22 +220,25 @@ work-step {bytes} {from} {works} {rows} w row c l h r next e =
     let Front : List Record → Type 0 = λ rs. drop from bytes ≡ bytes-of rs ++ drop next bytes in
     let kept = c .kept in
     let some : w .gives ≡ none → ⊥ =
-      λ empty. kept .1 .1 .1 .1 .1 .0 (ap value (sym (part-here c 8 8 (omega (arith, kept .0)))) ∙ sym (h .given) ∙ ap (λ (s : Set). s .bits) empty)
+    λ empty. kept .1 .1 .1 .1 .1 .0 (ap value (sym (part-here c 8 8 (omega (arith, kept .0)))) ∙ sym (h .given) ∙ ap (λ (s : Set). s .bits) empty)
     in
-    let long = ap length (is .1) ∙ length-drop 20 (c .body) in
-    (some, record {
-      front = subst Front (sym (map-push work-record xs x) ∙ ap (map work-record) same)
-        (front-more (drop from bytes) (map work-record xs) (work-record x) next c (l .front) (ap (λ b. record { kind = Kind.Work; body = b }) (is .0)) e);
-      sound = subst (All Sound-entry) same (all-push Sound-entry xs x (l .sound) (record {
-        pounds = r .pounds-fit; hours = r .hours-fit;
-        name = record { some = omega (arith, long, kept .0); short = omega (arith, long, kept .0); text = subst Text (sym (is .1)) (kept .1 .1 .1 .0) }
-      }));
-      giving = subst (All Giving) same (all-push Giving xs x (l .giving) (record { needs = h .needs-fit; gives = h .gives-fit; some = some }));
-      lie = all-push (λ (q : WorkRow). Lies bytes (q .name)) rows row (l .lie) (omega (arith, room-here c, is .2, r .start));
-      level = length-push works w ∙ ap (λ n. n + 1) (l .level) ∙ sym (length-push rows row);
-      count = ap (λ n. n + 1) (l .count) ∙ sym (length-push rows row);
-      few = omega (arith, length-push rows row, l .count, kept .1 .1 .1 .1 .1 .1 .0)
-    })
+    let long = ap length (is .1) ∙ length-drop 20 (c .body) in (
+      some,
+      record {
+        front = subst Front (sym (map-push work-record xs x) ∙ ap (map work-record) same)
+            (front-more (drop from bytes) (map work-record xs) (work-record x) next c (l .front) (ap (λ b. record { kind = Kind.Work; body = b }) (is .0)) e);
+        sound = subst (All Sound-entry) same (all-push Sound-entry xs x (l .sound) (record {
+          pounds = r .pounds-fit;
+          hours = r .hours-fit;
+          name = record { some = omega (arith, long, kept .0); short = omega (arith, long, kept .0); text = subst Text (sym (is .1)) (kept .1 .1 .1 .0) };
+        }));
+        giving = subst (All Giving) same (all-push Giving xs x (l .giving) (record { needs = h .needs-fit; gives = h .gives-fit; some = some }));
+        lie = all-push (λ (q : WorkRow). Lies bytes (q .name)) rows row (l .lie) (omega (arith, room-here c, is .2, r .start));
+        level = length-push works w ∙ ap (λ n. n + 1) (l .level) ∙ sym (length-push rows row);
+        count = ap (λ n. n + 1) (l .count) ∙ sym (length-push rows row);
+        few = omega (arith, length-push rows row, l .count, kept .1 .1 .1 .1 .1 .1 .0);
+      },
+    )
 
 -- the next work of a file that has m of them
 pub work-at : {bytes : List ℕ} {works : List Work} (rows : List WorkRow) (from i at m : ℕ) → i ≤ length rows → i < m →
@@ -266,28 +278,33 @@ tail-here {bytes} {at} s =
     let rest = none-comes (f .ahead) refl in
     let end-is : f .body ≡ [] = empty (f .body) (f .kept .0) in
     let third : drop at₂ bytes ≡ encode (mark Kind.End) ++ [] =
-      f .same ∙ ap₂ (λ b l. encode (record { kind = Kind.End; body = b }) ++ l) end-is rest
+    f .same ∙ ap₂ (λ b l. encode (record { kind = Kind.End; body = b }) ++ l) end-is rest
     in
     let twelve : at + 16 ≡ at₁ + (4 + 0) = omega (arith, s .kept .0) in
     record {
       standing = s .body;
       wanted = w .body;
       same =
-        s .same ∙ ap (λ l. encode (record { kind = Kind.Standing; body = s .body }) ++ l)
+          s .same ∙ ap (λ l. encode (record { kind = Kind.Standing; body = s .body }) ++ l)
           (w .same ∙ ap (λ l. encode (record { kind = Kind.Wanted; body = w .body }) ++ l) third);
       first = part-here s 0 8 (omega (arith, s .kept .0)) ∙ eight (s .body) (s .kept .0);
       second = ap (λ i. take 8 (drop i bytes)) twelve ∙ part-here w 0 8 (omega (arith, w .kept .0)) ∙ eight (w .body) (w .kept .0);
-      room = omega (arith, room-here f, s .kept .0, w .kept .0)
+      room = omega (arith, room-here f, s .kept .0, w .kept .0);
     }
 
 -- ---- the whole file
 
 -- where all items have come, the works begin
 pub works-begin : {bytes : List ℕ} (rows : List ItemRow) (at n m : ℕ) → length rows ≡ n → Itemed bytes rows at n m → Entering bytes at [] [] at m
-works-begin rows at n m e t =
-    (t .0, t .1, t .2, t .3,
-      record { front = refl; sound = tt; giving = tt; lie = tt; level = refl; count = t .4 .works; few = omega arith },
-      t .5 ∙ sym e ∙ sym (t .4 .items), t .6)
+works-begin rows at n m e t = (
+  t .0,
+  t .1,
+  t .2,
+  t .3,
+  record { front = refl; sound = tt; giving = tt; lie = tt; level = refl; count = t .4 .works; few = omega arith },
+  t .5 ∙ sym e ∙ sym (t .4 .items),
+  t .6,
+)
 
 -- where all works have come, the last three records begin
 pub works-end : {bytes : List ℕ} {works : List Work} (rows : List WorkRow) (from at m : ℕ) → length rows ≡ m → Entering bytes from works rows at m →
@@ -315,16 +332,18 @@ whole-read {bytes} {from} {at} {works} {rows} {items} l m t s w s-is w-is s-fit 
     let middle = map work-record (entries bytes works rows) in
     let last = set-record Kind.Standing s ∷ set-record Kind.Wanted w ∷ mark Kind.End ∷ [] in
     let end-is : drop at bytes ≡ bytes-of last =
-      t .same ∙ ap₂ (λ a b. bytes-of (record { kind = Kind.Standing; body = a } ∷ record { kind = Kind.Wanted; body = b } ∷ mark Kind.End ∷ []))
-        (sym s-is) (sym w-is)
+    t .same ∙ ap₂ (λ a b. bytes-of (record { kind = Kind.Standing; body = a } ∷ record { kind = Kind.Wanted; body = b } ∷ mark Kind.End ∷ []))
+    (sym s-is) (sym w-is)
     in
     record {
       same =
-        l .front ∙ ap (λ x. bytes-of heads ++ x) (m .front ∙ ap (λ x. bytes-of middle ++ x) end-is ∙ sym (bytes-append middle last))
-        ∙ sym (bytes-append heads (middle ++ last));
+          l .front ∙ ap (λ x. bytes-of heads ++ x) (m .front ∙ ap (λ x. bytes-of middle ++ x) end-is ∙ sym (bytes-append middle last))
+          ∙ sym (bytes-append heads (middle ++ last));
       readable = record {
         sound = record { rising = l .rising; items = l .sound; works = m .sound; few = omega (arith, length-entries bytes works rows (m .level), m .few) };
-        giving = m .giving; standing = s-fit; wanted = w-fit
+        giving = m .giving;
+        standing = s-fit;
+        wanted = w-fit;
       };
-      rowed = record { level = sym (m .level); work-names = m .lie; item-names = l .lie }
+      rowed = record { level = sym (m .level); work-names = m .lie; item-names = l .lie };
     }

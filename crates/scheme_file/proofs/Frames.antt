@@ -1,20 +1,17 @@
 -- Records among bytes: the parts of a record where they stand.
-use mathlib.Core.Path.{_≡_, refl, sym, ap, ap₂, subst, _∙_}
-use mathlib.Core.Bool.{Bool, true, false, cond}
+use mathlib.Core.Path.{_≡_, refl, sym, ap, ap₂, _∙_}
 use mathlib.Core.List.{List, [], _∷_, _++_}
-use Prim.Native.Nat.{ℕ, suc, _+_, _-_, _*_, _≤_, _<_}
+use Prim.Native.Nat.{ℕ, _+_, _-_, _*_, _≤_, _<_}
 use native.Mathlib.Omega.{arith}
 use borrow.Author.Needs.{needs}
-use lib.Dec.{eqb}
 use lib.ListN.{length, take, drop, getD}
-use Rattle.std.specs.declared.option.Option.{Option}
-use Rattle.std.specs.declared.option.Option.the-variants.{Some, None}
+use Rattle.std.specs.declared.option.Option.the-variants.{Some}
 use Rattle.std.proofs.shelf.Lists.{same-lists, places, take-append-drop, drop-drop, length-drop, length-take-le, getD-drop, append-assoc}
 use Rattle.std.proofs.shelf.Ways.{tells}
 use Rattle.scheme_file.specs.declared.kinds.Kind.{Kind}
 use Rattle.scheme_file.specs.declared.kinds.Kind.the-variants.{Head, Item, Work, Standing, Wanted, End}
 use Rattle.scheme_file.specs.Bytes.{le, value}
-use Rattle.scheme_file.specs.Format.{Record, encode}
+use Rattle.scheme_file.specs.Format.{encode}
 use Rattle.scheme_file.specs.Kinds.{code-of, named}
 use Rattle.scheme_file.specs.Rules.{Kept, body-in, code, frame-rules, size}
 use Rattle.scheme_file.proofs.Digits.{le-value}
@@ -56,7 +53,7 @@ framed rest k fits kept known =
     let all : 2 + length body ≡ size rest = omega arith in
     let first : le 2 (2 + length body) ≡ take 2 rest = ap (le 2) all ∙ le-value 2 rest (room .0) fits in
     let second : le 2 (code-of k) ≡ take 2 (drop 2 rest) =
-      ap (le 2) (code-named (code rest) k known)
-      ∙ le-value 2 (drop 2 rest) (simp length-drop (omega arith)) (λ i. rw getD-drop (fits (2 + i)))
+    ap (le 2) (code-named (code rest) k known)
+    ∙ le-value 2 (drop 2 rest) (simp length-drop (omega arith)) (λ i. rw getD-drop (fits (2 + i)))
     in
     parts rest (size rest - 2) (length body) long ∙ sym (ap₂ (λ (a b : List ℕ). (a ++ (b ++ body)) ++ after) first second)

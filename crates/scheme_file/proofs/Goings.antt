@@ -1,10 +1,10 @@
 -- Records one after another, and the places between them.
 use mathlib.Core.Path.{_≡_, refl, sym, ap, ap₂, subst, _∙_}
 use mathlib.Core.List.{List, [], _∷_, _++_}
-use Prim.Native.Nat.{ℕ, suc, _+_, _-_, _≤_, _<_}
+use Prim.Native.Nat.{ℕ, _+_}
 use native.Mathlib.Omega.{arith}
-use lib.ListN.{length, take, drop, getD}
-use Rattle.std.proofs.shelf.Lists.{append-assoc, append-nil, drop-drop, length-append, length-drop, length-push, joined-more}
+use lib.ListN.{length, drop}
+use Rattle.std.proofs.shelf.Lists.{append-assoc, drop-drop, length-append, length-drop, length-push, joined-more}
 use Rattle.scheme_file.specs.declared.kinds.Kind.{Kind}
 use Rattle.scheme_file.specs.declared.kinds.Kind.the-variants.{Head, Item, Work, Standing, Wanted, End}
 use Rattle.scheme_file.specs.declared.places.Place.{Place}
@@ -37,9 +37,14 @@ sane-after p End body sane kept = record { items = sane .items; least = sane .le
 
 pub upto-start : (bytes : List ℕ) → Upto bytes start 0 0
 upto-start bytes = record {
-  before = []; good = refl; split = refl; offset = refl; number = refl;
+  before = [];
+  good = refl;
+  split = refl;
+  offset = refl;
+  number = refl;
   sane = record { items = omega arith; least = omega arith; works = omega arith };
-  within = omega arith; fewer = omega arith
+  within = omega arith;
+  fewer = omega arith;
 }
 
 -- the checking pass goes on by a record
@@ -55,12 +60,12 @@ upto-more {bytes} {p} {q} {at} {n} {s} u t =
       before = u .before ++ r ∷ [];
       good = subst G (sym (t .place)) (goes-more (u .before) start p r (u .good) (t .kept));
       split =
-        u .split ∙ ap (λ l. bytes-of (u .before) ++ l) (t .front ∙ ap (λ l. encode r ++ l) left)
-        ∙ sym (append-assoc (bytes-of (u .before)) (encode r) (drop (at + s) bytes))
-        ∙ ap (λ l. l ++ drop (at + s) bytes) (sym seen);
+          u .split ∙ ap (λ l. bytes-of (u .before) ++ l) (t .front ∙ ap (λ l. encode r ++ l) left)
+          ∙ sym (append-assoc (bytes-of (u .before)) (encode r) (drop (at + s) bytes))
+          ∙ ap (λ l. l ++ drop (at + s) bytes) (sym seen);
       offset = ap₂ _+_ (u .offset) (t .long) ∙ sym (ap length seen ∙ length-append (bytes-of (u .before)) (encode r));
       number = ap (λ k. k + 1) (u .number) ∙ sym (length-push (u .before) r);
       sane = subst P (sym (t .place)) (sane-after p (r .kind) (r .body) (u .sane) (t .kept));
       within = omega (arith, t .within, length-drop at bytes);
-      fewer = omega (arith, u .fewer, t .some)
+      fewer = omega (arith, u .fewer, t .some);
     }

@@ -10,3 +10,4 @@ mod Puts
 mod Rewrites
 mod Keeping
 mod Uniques
+mod OneFault

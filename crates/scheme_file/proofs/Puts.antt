@@ -18,8 +18,15 @@ use Rattle.scheme_file.proofs.Goings.{bytes-more}
 
 pub wrote-length : {was xs out : List ℕ} {at next : ℕ} → Wrote was at xs out next → length out ≡ length was
 wrote-length {was} {xs} {out} {at} w =
-    omega (arith, ap length (w .same), length-append (take at was) (xs ++ drop (at + length xs) was), length-append xs (drop (at + length xs) was),
-      length-take-le at was (omega (arith, w .room)), length-drop (at + length xs) was, w .room)
+    omega (
+      arith,
+      ap length (w .same),
+      length-append (take at was) (xs ++ drop (at + length xs) was),
+      length-append xs (drop (at + length xs) was),
+      length-take-le at was (omega (arith, w .room)),
+      length-drop (at + length xs) was,
+      w .room,
+    )
 
 -- what is put behind
 pub wrote-more : {was xs out ys then : List ℕ} {at next end : ℕ} → Wrote was at xs out next → Wrote out next ys then end → Wrote was at (xs ++ ys) then end
@@ -29,22 +36,22 @@ wrote-more {was} {xs} {out} {ys} {then} {at} {next} {end} w v =
     let n = length ys in
     let cut : out ≡ front ++ back = w .same ∙ sym (append-assoc (take at was) xs back) in
     let long : length front ≡ next =
-      length-append (take at was) xs ∙ ap (λ k. k + length xs) (length-take-le at was (omega (arith, w .room))) ∙ sym (w .end)
+    length-append (take at was) xs ∙ ap (λ k. k + length xs) (length-take-le at was (omega (arith, w .room))) ∙ sym (w .end)
     in
     let both = length-append xs ys in
     let all : (at + length xs) + n ≡ at + length (xs ++ ys) = omega arith in
     let before : take next out ≡ front = ap (take next) cut ∙ take-at front back next long in
     let behind : drop (next + n) out ≡ drop (at + length (xs ++ ys)) was =
-      sym (drop-drop n next out) ∙ ap (λ l. drop n (drop next l)) cut ∙ ap (drop n) (drop-at front back next long)
-      ∙ drop-drop n (at + length xs) was ∙ ap (λ k. drop k was) all
+    sym (drop-drop n next out) ∙ ap (λ l. drop n (drop next l)) cut ∙ ap (drop n) (drop-at front back next long)
+    ∙ drop-drop n (at + length xs) was ∙ ap (λ k. drop k was) all
     in
     let rest = drop (at + length (xs ++ ys)) was in
     record {
       same =
-        v .same ∙ ap₂ (λ a b. a ++ (ys ++ b)) before behind ∙ append-assoc (take at was) xs (ys ++ rest)
-        ∙ ap (λ l. take at was ++ l) (sym (append-assoc xs ys rest));
+          v .same ∙ ap₂ (λ a b. a ++ (ys ++ b)) before behind ∙ append-assoc (take at was) xs (ys ++ rest)
+          ∙ ap (λ l. take at was ++ l) (sym (append-assoc xs ys rest));
       end = omega (arith, v .end, w .end);
-      room = omega (arith, v .room, w .end, wrote-length w)
+      room = omega (arith, v .room, w .end, wrote-length w);
     }
 
 pub wrote-as : {was xs ys out : List ℕ} {at next : ℕ} → xs ≡ ys → Wrote was at xs out next → Wrote was at ys out next

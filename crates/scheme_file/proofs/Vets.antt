@@ -1,5 +1,5 @@
 -- Rows to be written: one more of them, and what holds of each.
-use mathlib.Core.Path.{_≡_, refl, sym, ap, subst, _∙_}
+use mathlib.Core.Path.{_≡_, sym, ap, subst, _∙_}
 use mathlib.Core.List.{List, [], _∷_, _++_, map}
 use Prim.Native.Nat.{ℕ, zero, suc, _+_, _≤_, _<_}
 use native.Mathlib.Omega.{arith}
@@ -13,7 +13,7 @@ use Rattle.scheme_file.specs.declared.rows.ItemRow.{ItemRow}
 use Rattle.scheme_file.specs.declared.rows.Name.{Name}
 use Rattle.scheme_file.specs.declared.rows.WorkRow.{WorkRow}
 use Rattle.scheme_file.specs.Contents.{Fit, Lies, Rises, Sound-entry, Sound-item, bytes-at, entries, entry-in, item-in}
-use Rattle.scheme_file.specs.Format.{Entry, Named, Record, bytes-of, encode, item-record, work-record}
+use Rattle.scheme_file.specs.Format.{Record, bytes-of, encode, item-record, work-record}
 use Rattle.scheme_file.specs.Passes.{ItemFits, ItemsFit, WorkFits, WorksFit, above}
 use Rattle.scheme_file.proofs.Fills.{above-more, entries-more, length-entries, rises-more}
 use Rattle.scheme_file.proofs.Goings.{bytes-more}
@@ -34,21 +34,22 @@ pub items-push :
     ItemsFit (rows ++ r ∷ []) text
     × (r .number + 1 ≡ above 0 (map (item-in text) (rows ++ r ∷ [])))
     × (length (bytes-of (map item-record (map (item-in text) rows))) + (5 + r .name .len)
-      ≡ length (bytes-of (map item-record (map (item-in text) (rows ++ r ∷ [])))))
+    ≡ length (bytes-of (map item-record (map (item-in text) (rows ++ r ∷ [])))))
 items-push rows text least r fit e one =
     let x = item-in text r in
     let xs = map (item-in text) rows in
     let names : xs ++ x ∷ [] ≡ map (item-in text) (rows ++ r ∷ []) = sym (map-push (item-in text) rows r) in
     let recs : map item-record xs ++ item-record x ∷ [] ≡ map item-record (map (item-in text) (rows ++ r ∷ [])) =
-      sym (map-push item-record xs x) ∙ ap (map item-record) names
-    in
-    (record {
+    sym (map-push item-record xs x) ∙ ap (map item-record) names
+    in (
+      record {
         lie = all-push (λ (q : ItemRow). Lies text (q .name)) rows r (fit .lie) (one .lies);
         rising = subst (Rises 0) names (rises-more 0 xs x (fit .rising) (omega (arith, one .above)));
-        sound = subst (All Sound-item) names (all-push Sound-item xs x (fit .sound) (record { low = one .low; name = one .name }))
+        sound = subst (All Sound-item) names (all-push Sound-item xs x (fit .sound) (record { low = one .low; name = one .name }));
       },
       sym (above-more 0 xs x) ∙ ap (above 0) names,
-      omega (arith, size-more (map item-record xs) (item-record x), ap (λ l. length (bytes-of l)) recs, name-size text (r .name) (one .lies)))
+      omega (arith, size-more (map item-record xs) (item-record x), ap (λ l. length (bytes-of l)) recs, name-size text (r .name) (one .lies)),
+    )
 
 rises-at : (n : ℕ) (items : List ItemRow) (text : List ℕ) (i : ℕ) (d : ItemRow) → i < length items → Rises n (map (item-in text) items) →
     above n (map (item-in text) (take i items)) ≤ getD items i d .number
@@ -60,13 +61,13 @@ pub items-at : (items : List ItemRow) (text : List ℕ) (i : ℕ) (d : ItemRow) 
     ItemFits text (above 0 (map (item-in text) (take i items))) (getD items i d)
 items-at items text i d lt fit =
     let one = subst Sound-item (getD-map (item-in text) items i d (item-in text d) lt)
-      (all-getD Sound-item (map (item-in text) items) i (item-in text d) (omega (arith, length-map items (item-in text))) (fit .sound))
+    (all-getD Sound-item (map (item-in text) items) i (item-in text d) (omega (arith, length-map items (item-in text))) (fit .sound))
     in
     record {
       above = rises-at 0 items text i d lt (fit .rising);
       low = one .low;
       lies = all-getD (λ (q : ItemRow). Lies text (q .name)) items i d lt (fit .lie);
-      name = one .name
+      name = one .name;
     }
 
 -- ---- works
@@ -77,20 +78,21 @@ pub works-push :
     WorkFits text r →
     WorksFit (works ++ w ∷ []) (rows ++ r ∷ []) text
     × (length (bytes-of (map work-record (entries text works rows))) + (24 + r .name .len)
-      ≡ length (bytes-of (map work-record (entries text (works ++ w ∷ []) (rows ++ r ∷ [])))))
+    ≡ length (bytes-of (map work-record (entries text (works ++ w ∷ []) (rows ++ r ∷ [])))))
 works-push works rows text w r fit one =
     let x = entry-in text w r in
     let xs = entries text works rows in
     let same : xs ++ x ∷ [] ≡ entries text (works ++ w ∷ []) (rows ++ r ∷ []) = sym (entries-more text works rows w r (sym (fit .level))) in
     let recs : map work-record xs ++ work-record x ∷ [] ≡ map work-record (entries text (works ++ w ∷ []) (rows ++ r ∷ [])) =
-      sym (map-push work-record xs x) ∙ ap (map work-record) same
-    in
-    (record {
+    sym (map-push work-record xs x) ∙ ap (map work-record) same
+    in (
+      record {
         level = length-push rows r ∙ ap (λ n. n + 1) (fit .level) ∙ sym (length-push works w);
         lie = all-push (λ (q : WorkRow). Lies text (q .name)) rows r (fit .lie) (one .lies);
-        sound = subst (All Sound-entry) same (all-push Sound-entry xs x (fit .sound) (record { pounds = one .pounds; hours = one .hours; name = one .name }))
+        sound = subst (All Sound-entry) same (all-push Sound-entry xs x (fit .sound) (record { pounds = one .pounds; hours = one .hours; name = one .name }));
       },
-      omega (arith, size-more (map work-record xs) (work-record x), ap (λ l. length (bytes-of l)) recs, name-size text (r .name) (one .lies)))
+      omega (arith, size-more (map work-record xs) (work-record x), ap (λ l. length (bytes-of l)) recs, name-size text (r .name) (one .lies)),
+    )
 
 entry-at : (works : List Work) (rows : List WorkRow) (text : List ℕ) (i : ℕ) (d : WorkRow) → i < length rows → length rows ≡ length works →
     All Sound-entry (entries text works rows) → (w : Work) × Sound-entry (entry-in text w (getD rows i d))
@@ -107,7 +109,7 @@ works-at works rows text i d lt fit =
       pounds = one .pounds;
       hours = one .hours;
       lies = all-getD (λ (q : WorkRow). Lies text (q .name)) rows i d lt (fit .lie);
-      name = one .name
+      name = one .name;
     }
 
 -- ---- all rows
@@ -115,9 +117,11 @@ works-at works rows text i d lt fit =
 pub fit-of : (k : Task) (rows : List WorkRow) (items : List ItemRow) (text : List ℕ) → ItemsFit items text → WorksFit (k .works) rows text →
     length (k .works) ≤ 64 → Fit k rows items text
 fit-of k rows items text i w few = (
-    record { level = w .level; work-names = w .lie; item-names = i .lie },
-    record {
-      rising = i .rising; items = i .sound; works = w .sound;
-      few = omega (arith, length-entries text (k .works) rows (sym (w .level)), w .level)
-    },
-  )
+  record { level = w .level; work-names = w .lie; item-names = i .lie },
+  record {
+    rising = i .rising;
+    items = i .sound;
+    works = w .sound;
+    few = omega (arith, length-entries text (k .works) rows (sym (w .level)), w .level);
+  },
+)

@@ -2,7 +2,7 @@
 use mathlib.Core.Path.{_≡_, refl, sym, ap, ap₂, subst, _∙_}
 use mathlib.Core.List.{List, [], _∷_, _++_, map}
 use mathlib.Core.Logic.{_⊎_, inl, inr, ⊎-elim}
-use Prim.Native.Nat.{ℕ, suc, _+_, _-_, _*_, _≤_, _<_}
+use Prim.Native.Nat.{ℕ, _+_, _*_, _≤_, _<_}
 use native.Mathlib.Omega.{arith}
 use native.Mathlib.Nat.{mul-suc}
 use lib.ListN.{length, drop}
@@ -21,9 +21,9 @@ use Rattle.scheme_file.specs.declared.rows.ItemRow.{ItemRow}
 use Rattle.scheme_file.specs.declared.rows.WorkRow.{WorkRow}
 use Rattle.scheme_file.specs.Contents.{Reads, Rises, Sound, Sound-entry, Sound-item, contents}
 use Rattle.scheme_file.specs.Faults.{At, Short}
-use Rattle.scheme_file.specs.Format.{Contents, Entry, Named, Record, bytes-of, encode, file, item-record, mark, records, set-record, work-record}
-use Rattle.scheme_file.specs.Kinds.{Next, highest, lowest}
-use Rattle.scheme_file.specs.Passes.{Ahead, Between, Itemed, Listed, Whole}
+use Rattle.scheme_file.specs.Format.{Contents, Named, Record, bytes-of, encode, file, item-record, mark, set-record, work-record}
+use Rattle.scheme_file.specs.Kinds.{Next, lowest}
+use Rattle.scheme_file.specs.Passes.{Ahead, Itemed, Whole}
 use Rattle.scheme_file.specs.Rules.{Goes, Kept, after, moved, record-rules, start}
 use Rattle.scheme_file.proofs.Comings.{only-comes}
 use Rattle.scheme_file.proofs.Fills.{empty}
@@ -47,15 +47,25 @@ file-bound c sound =
     let works = map work-record (c .works) in
     let last = set-record Standing (c .standing) ∷ set-record Wanted (c .wanted) ∷ mark End ∷ [] in
     let i = size-bound 45 items (all-map (λ r. length (r .body) + 4 ≤ 45) item-record (c .items)
-      (all-weaker Sound-item (λ x. length (item-record x .body) + 4 ≤ 45) (λ x s. omega (arith, s .name .short)) (c .items) (sound .items)))
+    (all-weaker Sound-item (λ x. length (item-record x .body) + 4 ≤ 45) (λ x s. omega (arith, s .name .short)) (c .items) (sound .items)))
     in
     let w = size-bound 64 works (all-map (λ r. length (r .body) + 4 ≤ 64) work-record (c .works)
-      (all-weaker Sound-entry (λ x. length (work-record x .body) + 4 ≤ 64) (λ x s. omega (arith, s .name .short)) (c .works) (sound .works)))
+    (all-weaker Sound-entry (λ x. length (work-record x .body) + 4 ≤ 64) (λ x s. omega (arith, s .name .short)) (c .works) (sound .works)))
     in
     let few = rises-few 0 (c .items) (omega arith) (sound .rising) (sound .items) in
-    omega (arith, i, w, few, sound .few, length-map (c .items) item-record, length-map (c .works) work-record,
-      ap length (bytes-append items (works ++ last)), ap length (bytes-append works last),
-      length-append (bytes-of items) (bytes-of (works ++ last)), length-append (bytes-of works) (bytes-of last))
+    omega (
+      arith,
+      i,
+      w,
+      few,
+      sound .few,
+      length-map (c .items) item-record,
+      length-map (c .works) work-record,
+      ap length (bytes-append items (works ++ last)),
+      ap length (bytes-append works last),
+      length-append (bytes-of items) (bytes-of (works ++ last)),
+      length-append (bytes-of works) (bytes-of last),
+    )
 
 pub reads-bound : {bytes : List ℕ} {k : Task} {rows : List WorkRow} {items : List ItemRow} → Reads bytes k rows items → length bytes ≤ 7008
 reads-bound {bytes} {k} {rows} {items} r =
@@ -71,12 +81,23 @@ whole-itemed {bytes} {p} w =
     let h = only-comes Head a (λ e. omega (arith, ap lowest e)) (omega arith) (omega arith) in
     let none : h .body ≡ [] = empty (h .body) (h .kept .0) in
     let four : 0 + (4 + length (h .body)) ≡ 4 = omega (arith, h .kept .0) in
-    let A : ℕ → Type 0 = λ x. Ahead bytes x (moved start Items) p in
-    (moved start Items, p, subst A four (h .ahead), record { low = omega arith; high = omega arith },
+    let A : ℕ → Type 0 = λ x. Ahead bytes x (moved start Items) p in (
+      moved start Items,
+      p,
+      subst A four (h .ahead),
+      record { low = omega arith; high = omega arith },
       record {
         front = h .same ∙ ap₂ (λ b i. encode (record { kind = Head; body = b }) ++ drop i bytes) none four;
-        rising = tt; least = refl; sound = tt; lie = tt; items = refl; works = refl
-      }, refl, refl)
+        rising = tt;
+        least = refl;
+        sound = tt;
+        lie = tt;
+        items = refl;
+        works = refl;
+      },
+      refl,
+      refl,
+    )
 
 closed-or-not : (s : Stage) → (s ≡ Closed) ⊎ (s ≡ Closed → ⊥)
 closed-or-not Opening = inr (λ e. omega (arith, ap lowest e))
@@ -113,9 +134,13 @@ end-record p q Standing body rs kept closed on = absurd (omega (arith, ap lowest
 end-record p q Wanted body rs kept closed on = absurd (omega (arith, ap lowest closed))
 end-record p q End body (r ∷ rs) kept closed on = absurd (omega (arith, on .0 .1 .0))
 end-record p q End body [] kept closed on = record {
-  before = []; place = p; good = refl; closing = before-end (p .stage) (kept .1 .0);
-  works = ap (λ (s : Place). s .works) on; items = ap (λ (s : Place). s .items) on;
-  all = ap (λ b. record { kind = End; body = b } ∷ []) (empty body (kept .0))
+  before = [];
+  place = p;
+  good = refl;
+  closing = before-end (p .stage) (kept .1 .0);
+  works = ap (λ (s : Place). s .works) on;
+  items = ap (λ (s : Place). s .items) on;
+  all = ap (λ b. record { kind = End; body = b } ∷ []) (empty body (kept .0));
 }
 
 ended : (rs : List Record) (p q : Place) → Goes p rs q → q .stage ≡ Closed → (p .stage ≡ Closed → ⊥) → Ended p rs q
@@ -123,11 +148,16 @@ ended [] p q e closed open-yet = absurd (open-yet (ap (λ (s : Place). s .stage)
 ended (r ∷ rs) p q good closed open-yet =
     ⊎-elim (λ e. end-record p q (r .kind) (r .body) rs (good .0) e (good .1))
     (λ still.
-      let d = ended rs (after p (r .kind) (r .body)) q (good .1) closed still in
-      record {
-        before = r ∷ d .before; place = d .place; good = (good .0, d .good); closing = d .closing;
-        works = d .works; items = d .items; all = ap (λ l. r ∷ l) (d .all)
-      })
+    let d = ended rs (after p (r .kind) (r .body)) q (good .1) closed still in
+    record {
+      before = r ∷ d .before;
+      place = d .place;
+      good = (good .0, d .good);
+      closing = d .closing;
+      works = d .works;
+      items = d .items;
+      all = ap (λ l. r ∷ l) (d .all);
+    })
     (closed-or-not (after p (r .kind) (r .body) .stage))
 
 -- a file ends with its end record, at which short rows are told
@@ -137,18 +167,23 @@ whole-short {bytes} {p} {n} w works items short f number offset cause =
     let d = ended (w .all) start p (w .good) (w .closed) (λ e. omega (arith, ap lowest e)) in
     let split : bytes ≡ bytes-of (d .before) ++ encode (mark End) = w .same ∙ ap bytes-of (d .all) ∙ bytes-more (d .before) (mark End) in
     record {
-      before = d .before; place = d .place; rest = encode (mark End); good = d .good; split = split;
+      before = d .before;
+      place = d .place;
+      rest = encode (mark End);
+      good = d .good;
+      split = split;
       index = omega (arith, w .number, ap length (d .all), length-push (d .before) (mark End));
       offset = omega (arith, ap length split, length-append (bytes-of (d .before)) (encode (mark End)));
-      why = (d .closing, refl, ⊎-elim (λ h. inl (omega (arith, d .works))) (λ h. inr (omega (arith, d .items))) short, cause)
+      why = (d .closing, refl, ⊎-elim (λ h. inl (omega (arith, d .works))) (λ h. inr (omega (arith, d .items))) short, cause);
     }
 
 pub whole-some : {bytes : List ℕ} {p : Place} {n : ℕ} → Whole bytes p n → (1 ≤ n) × (4 ≤ length bytes)
 whole-some {bytes} {p} w =
     let d = ended (w .all) start p (w .good) (w .closed) (λ e. omega (arith, ap lowest e)) in
-    let split : bytes ≡ bytes-of (d .before) ++ encode (mark End) = w .same ∙ ap bytes-of (d .all) ∙ bytes-more (d .before) (mark End) in
-    (omega (arith, w .number, ap length (d .all), length-push (d .before) (mark End)),
-      omega (arith, ap length split, length-append (bytes-of (d .before)) (encode (mark End))))
+    let split : bytes ≡ bytes-of (d .before) ++ encode (mark End) = w .same ∙ ap bytes-of (d .all) ∙ bytes-more (d .before) (mark End) in (
+      omega (arith, w .number, ap length (d .all), length-push (d .before) (mark End)),
+      omega (arith, ap length split, length-append (bytes-of (d .before)) (encode (mark End))),
+    )
 
 -- ---- a file from its parts
 
@@ -166,5 +201,10 @@ file-length c =
     let items = map item-record (c .items) in
     let works = map work-record (c .works) in
     let last = set-record Standing (c .standing) ∷ set-record Wanted (c .wanted) ∷ mark End ∷ [] in
-    omega (arith, ap length (bytes-append items (works ++ last)), ap length (bytes-append works last),
-      length-append (bytes-of items) (bytes-of (works ++ last)), length-append (bytes-of works) (bytes-of last))
+    omega (
+      arith,
+      ap length (bytes-append items (works ++ last)),
+      ap length (bytes-append works last),
+      length-append (bytes-of items) (bytes-of (works ++ last)),
+      length-append (bytes-of works) (bytes-of last),
+    )

@@ -40,7 +40,7 @@ contents k rows items text = record {
   items = map (item-in text) items;
   works = entries text (k .works) rows;
   standing = k .standing;
-  wanted = k .wanted
+  wanted = k .wanted;
 }
 
 -- a name lies in a text

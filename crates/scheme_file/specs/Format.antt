@@ -46,7 +46,7 @@ item-record i = record { kind = Item; body = i .number ∷ i .name }
 abbrev pub work-record : Entry → Record
 work-record e = record {
   kind = Work;
-  body = le 8 (e .work .needs .bits) ++ (le 8 (e .work .gives .bits) ++ (le 2 (e .pounds) ++ (le 2 (e .hours) ++ e .name)))
+  body = le 8 (e .work .needs .bits) ++ (le 8 (e .work .gives .bits) ++ (le 2 (e .pounds) ++ (le 2 (e .hours) ++ e .name)));
 }
 
 abbrev pub set-record : Kind → Set → Record

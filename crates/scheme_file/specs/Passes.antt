@@ -1,4 +1,4 @@
--- What the passes of a reading keep.
+-- What the contracts of private functions cite.
 use mathlib.Core.Path.{_≡_}
 use mathlib.Core.Logic.{_⊎_}
 use mathlib.Core.List.{List, [], _∷_, _++_, map}
@@ -18,6 +18,8 @@ use Rattle.scheme_file.specs.Contents.{Giving, Lies, Rises, Sound-entry, Sound
 use Rattle.scheme_file.specs.Format.{Named, Record, bytes-of, encode, item-record, mark, work-record}
 use Rattle.scheme_file.specs.Kinds.{highest, lowest}
 use Rattle.scheme_file.specs.Rules.{Goes, Kept, after, record-rules, size, start}
+
+-- ---- the checking pass
 
 -- a scheme holds no more than 64 items and works
 pub record Sane (p : Place) : Type 0 where
@@ -105,7 +107,7 @@ Entering bytes from works rows at m =
     (p : Place) × (last : Place) × Ahead bytes at p last × Between p × Worked bytes from works rows at p
     × (last .items ≡ p .items) × (last .works ≡ m)
 
--- the work at an offset: its sets, its price and time, and where its name lies
+-- the work at an offset, and its row
 pub record WorkAt (bytes : List ℕ) (at : ℕ) (w : Work) : Type 0 where
   pub needs : le 8 (w .needs .bits) ≡ take 8 (drop (at + 4) bytes)
   pub gives : le 8 (w .gives .bits) ≡ take 8 (drop (at + 12) bytes)

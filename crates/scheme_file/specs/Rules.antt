@@ -15,12 +15,12 @@ use Rattle.scheme.specs.declared.refusals.Refusal.the-variants.{ItemTooHigh, Gi
 use Rattle.scheme_file.specs.declared.kinds.Kind.{Kind}
 use Rattle.scheme_file.specs.declared.kinds.Kind.the-variants.{Head, Item, Work, Standing, Wanted, End}
 use Rattle.scheme_file.specs.declared.stages.Stage.{Stage}
-use Rattle.scheme_file.specs.declared.stages.Stage.the-variants.{Opening, Items, Works, Wants, Closing, Closed}
+use Rattle.scheme_file.specs.declared.stages.Stage.the-variants.{Opening}
 use Rattle.scheme_file.specs.declared.places.Place.{Place}
 use Rattle.scheme_file.specs.declared.causes.Cause.{Cause}
 use Rattle.scheme_file.specs.declared.causes.Cause.the-variants.{Refused, CutShort, WrongLength, UnknownKind, OutOfOrder, NameByte}
 use Rattle.scheme_file.specs.Bytes.{value}
-use Rattle.scheme_file.specs.Kinds.{named, Allowed, Next}
+use Rattle.scheme_file.specs.Kinds.{named, Allowed, Next, stage-after}
 use Rattle.scheme_file.specs.Format.{Record}
 
 -- ---- lists of rules
@@ -123,17 +123,17 @@ rules p rest = frame-rules rest ++ rules-for p (named (code rest)) (body-in rest
 abbrev pub start : Place
 start = record { stage = Opening; least = 0; items = 0; works = 0 }
 
--- the place after a record
+-- the place at another stage, and the place after a record
 abbrev pub moved : Place → Stage → Place
 moved p s = record { stage = s; least = p .least; items = p .items; works = p .works }
 
 abbrev pub after : Place → Kind → List ℕ → Place
-after p Head body = moved p Items
-after p Item body = record { stage = Items; least = getD body 0 0 + 1; items = p .items + 1; works = p .works }
-after p Work body = record { stage = Works; least = p .least; items = p .items; works = p .works + 1 }
-after p Standing body = moved p Wants
-after p Wanted body = moved p Closing
-after p End body = moved p Closed
+after p Head body = moved p (stage-after Head)
+after p Item body = record { stage = stage-after Item; least = getD body 0 0 + 1; items = p .items + 1; works = p .works }
+after p Work body = record { stage = stage-after Work; least = p .least; items = p .items; works = p .works + 1 }
+after p Standing body = moved p (stage-after Standing)
+after p Wanted body = moved p (stage-after Wanted)
+after p End body = moved p (stage-after End)
 
 -- from p records go on to q, and each keeps the rules in its place
 abbrev pub Goes : Place → List Record → Place → Type 0

@@ -1,19 +1,17 @@
 //! The checking pass: every rule is tested, and nothing is written.
-ghost use mathlib.Core.List.{[], _∷_};
 ghost use mathlib.Core.Logic.{_⊎_};
 ghost use mathlib.Core.Path.{_≡_};
-ghost use Prim.Native.Nat.{_+_, _≤_, _<_};
-ghost use lib.ListN.{length, take, drop};
+ghost use Prim.Native.Nat.{_≤_, _<_};
+ghost use lib.ListN.{length};
 ghost use Rattle.std.specs.Results.{Cases};
 ghost use Rattle.std.specs.declared.option.Option.the-variants.{Some};
-ghost use Rattle.sets.specs.Member.{none};
 ghost use Rattle.scheme.specs.declared.refusals.Refusal.the-variants.{ItemTooHigh, GivesNothing, SchemeFull};
 ghost use Rattle.scheme_file.specs.declared.causes.Cause.the-variants.{NameByte};
 ghost use Rattle.scheme_file.specs.declared.kinds.Kind.the-variants.{Item, Work};
 ghost use Rattle.scheme_file.specs.Faults.{Amiss};
-ghost use Rattle.scheme_file.specs.Kinds.{named, Allowed};
+ghost use Rattle.scheme_file.specs.Kinds.{named};
 ghost use Rattle.scheme_file.specs.Passes.{Sane, Stepped, Whole};
-ghost use Rattle.scheme_file.specs.Rules.{Broken, ByRules, Text, after, body-in, code, field-rules, frame-rules, record-rules, rule, rules};
+ghost use Rattle.scheme_file.specs.Rules.{Broken, ByRules, Text, after, body-in, code, field-rules, frame-rules, record-rules, rules};
 use crate::causes::Cause;
 use crate::causes::CauseFromRefusal;
 use crate::causes::Fault;
@@ -59,7 +57,11 @@ pub fn readable(name: &[u8]) -> Result<(), Cause>
 fn low(item: usize) -> Result<(), Refusal>
     ensures { λ r. ⌜ Cases r (λ _. item ≤ 63) (λ e. (e ≡ ItemTooHigh) × (item ≤ 63 → ⊥)) ⌝ }
 {
-    if item > 63 { Err(Refusal::ItemTooHigh) } else { Ok(()) }
+    if item > 63 {
+        Err(Refusal::ItemTooHigh)
+    } else {
+        Ok(())
+    }
 }
 
 /// The place after an item.

@@ -78,7 +78,13 @@ fn work_row(bytes: &[u8], at: usize) -> WorkRow
 }
 
 /// Enters `count` works and fills their rows; answers the offset after them.
-fn fill_works(bytes: &[u8], from: usize, count: usize, scheme: &mut Scheme, rows: &mut [WorkRow]) -> usize
+fn fill_works(
+    bytes: &[u8],
+    from: usize,
+    count: usize,
+    scheme: &mut Scheme,
+    rows: &mut [WorkRow],
+) -> usize
     requires { ⌜ (count ≤ length (now rows)) × (task-of (now scheme) .works ≡ []) × Entering (now bytes) from [] [] from count ⌝ }
     ensures filled { λ at. ⌜ Entering (now (bytes .entry)) from (task-of (now (scheme .exit)) .works) (take count (now (rows .exit))) at count ⌝ }
     ensures sets { λ _. ⌜ task-of (now (scheme .exit)) ≡ with-works (task-of (now (scheme .entry))) (task-of (now (scheme .exit)) .works) ⌝ }
@@ -118,7 +124,13 @@ fn want_all(scheme: &mut Scheme, items: Set)
 }
 
 /// Fills in bytes that passed the check and have that many rows.
-pub fn fill(bytes: &[u8], counts: Counts, scheme: &mut Scheme, works: &mut [WorkRow], items: &mut [ItemRow])
+pub fn fill(
+    bytes: &[u8],
+    counts: Counts,
+    scheme: &mut Scheme,
+    works: &mut [WorkRow],
+    items: &mut [ItemRow],
+)
     requires { ⌜ (counts .works ≤ length (now works)) × (counts .items ≤ length (now items)) × Itemed (now bytes) [] 4 (counts .items) (counts .works) ⌝ }
     ensures read { λ _. ⌜ Reads (now (bytes .entry)) (task-of (now (scheme .exit))) (take (counts .works) (now (works .exit))) (take (counts .items) (now (items .exit))) ⌝ }
     ensures works { λ _. ⌜ drop (counts .works) (now (works .exit)) ≡ drop (counts .works) (now (works .entry)) ⌝ }

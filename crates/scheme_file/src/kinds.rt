@@ -4,7 +4,7 @@ ghost use Rattle.std.specs.Orderings.{When};
 ghost use Rattle.scheme_file.specs.Kinds.{code-of, named, Allowed};
 
 /// What a record tells. A file has its kinds in this order.
-#[derive(Clone, Copy, PartialEq, Eq, Debug)]
+#[derive(Clone, Copy)]
 pub enum Kind {
     /// The file's first record.
     Head,

@@ -1,6 +1,5 @@
 //! Putting records into lent bytes.
 ghost use mathlib.Core.List.{_++_, map};
-ghost use mathlib.Core.Path.{_≡_};
 ghost use Prim.Native.Nat.{_+_, _≤_};
 ghost use lib.ListN.{length};
 ghost use Rattle.scheme_file.specs.Bytes.{le};
@@ -98,7 +97,13 @@ pub fn put_items(out: &mut [u8], from: usize, items: &[ItemRow], text: &[u8]) ->
 }
 
 /// Puts the records of the works.
-pub fn put_works(out: &mut [u8], from: usize, works: &[Work], rows: &[WorkRow], text: &[u8]) -> usize
+pub fn put_works(
+    out: &mut [u8],
+    from: usize,
+    works: &[Work],
+    rows: &[WorkRow],
+    text: &[u8],
+) -> usize
     requires { ⌜ WorksFit (now works) (now rows) (now text) × (from + length (bytes-of (map work-record (entries (now text) (now works) (now rows)))) ≤ length (now out)) ⌝ }
     ensures { λ next. ⌜ Wrote (now (out .entry)) from (bytes-of (map work-record (entries (now (text .entry)) (now (works .entry)) (now (rows .entry))))) (now (out .exit)) next ⌝ }
 {

@@ -5,7 +5,7 @@ ghost use Rattle.scheme_file.specs.Kinds.{Next, stage-after};
 use crate::kinds::Kind;
 
 /// How far a file has been read.
-#[derive(Clone, Copy, PartialEq, Eq, Debug)]
+#[derive(Clone, Copy, PartialEq)]
 pub enum Stage {
     /// The head is to come.
     Opening,

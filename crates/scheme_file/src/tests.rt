@@ -27,7 +27,13 @@ const SAMPLE: [u8; 70] = *b"\x02\0\x01\0\
     \x02\0\x06\0";
 
 /// Reads bytes into rows that are many enough, and checks the fault.
-fn refused(heap: Global, bytes: &[u8], number: u8, index: usize, offset: usize) -> Result<(), Fail> {
+fn refused(
+    heap: Global,
+    bytes: &[u8],
+    number: u8,
+    index: usize,
+    offset: usize,
+) -> Result<(), Fail> {
     let mut scheme = Scheme::new(heap)?;
     let mut works = [WORK_ROW; 64];
     let mut items = [ITEM_ROW; 64];
@@ -70,7 +76,14 @@ fn later_records(rt: LibcRuntime) -> Result<(), Fail> {
 }
 
 /// Reads the sample with one byte changed, and checks the fault.
-fn changed(heap: Global, at: usize, byte: u8, number: u8, index: usize, offset: usize) -> Result<(), Fail> {
+fn changed(
+    heap: Global,
+    at: usize,
+    byte: u8,
+    number: u8,
+    index: usize,
+    offset: usize,
+) -> Result<(), Fail> {
     let mut bytes = SAMPLE;
     if at < 70 {
         bytes[at] = byte;

@@ -16,7 +16,13 @@ use crate::vetting::works_size;
 use scheme::Scheme;
 
 /// Writes the file of a scheme, with one row for each work, and answers its length. The names lie in `text`. A refusal leaves `out` as it was.
-pub fn write(scheme: &Scheme, works: &[WorkRow], items: &[ItemRow], text: &[u8], out: &mut [u8]) -> Result<usize, Cause>
+pub fn write(
+    scheme: &Scheme,
+    works: &[WorkRow],
+    items: &[ItemRow],
+    text: &[u8],
+    out: &mut [u8],
+) -> Result<usize, Cause>
     ensures { λ r. ⌜ Cases r (λ n. Written (task-of (now (scheme .entry))) (now (works .entry)) (now (items .entry)) (now (text .entry)) (now (out .entry)) (now (out .exit)) n) (λ c. Refuses (task-of (now (scheme .entry))) (now (works .entry)) (now (items .entry)) (now (text .entry)) (now (out .entry)) c × (now (out .exit) ≡ now (out .entry))) ⌝ }
 {
     let items_len = items_size(items, text)?;

@@ -3,7 +3,7 @@ use Prim.Native.Nat.{_+_, _≤_}
 use native.Mathlib.Omega.{arith}
 use borrow.Author.Needs.{needs}
 use lib.ListN.{length, drop}
-use Rattle.std.proofs.shelf.Lists.{length-drop, getD-drop, places}
+use Rattle.std.proofs.shelf.Lists.{length-drop, places}
 use Rattle.std.specs.Options.{isSome}
 use Rattle.std.specs.declared.option.Option.the-variants.{Some}
 use Rattle.scheme_file.specs.Kinds.{named}
@@ -19,7 +19,7 @@ returns c =
     let sized : size rest ≡ s = value-two rest (omega arith) ∙ sym (c .from-le-bytes-size .ensures) in
     let two : 2 ≤ s = search needs in
     let coded : code rest ≡ c .from-le-bytes .result =
-      value-two (drop 2 rest) (simp length-drop (omega arith)) ∙ search (needs, places)
+    value-two (drop 2 rest) (simp length-drop (omega arith)) ∙ search (needs, places)
     in
     let known : named (code rest) ≡ Some (c .in-Continue-kind .kind) = ap named coded ∙ search needs in
     (((omega arith, omega arith), ((omega arith, ap isSome known), tt)), (known, rw sized (body-part rest s long)))

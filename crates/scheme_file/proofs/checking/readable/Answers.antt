@@ -8,13 +8,15 @@ use Rattle.scheme_file.proofs.checking.readable.Needs as need
 use Rattle.scheme_file.proofs.checking.readable.Needs.{then-b-lt32·by·then-b-lt32, then-b-lt32·by·else-b-lt32·then-b-gt126}
 
 pub returns-then-b-lt32 : need.returns-then-b-lt32
-returns-then-b-lt32 c =
-    (refl, λ text.
+returns-then-b-lt32 c = (
+  refl,
+  λ text.
       let fits = all-getD (λ b. (32 ≤ b) × (b ≤ 126)) (c .args .name .now) (c .loop-b .b-index) 0 (omega arith) text in
-      elim (c .then-b-lt32 .came)
-      [ then-b-lt32·by·then-b-lt32 w ↦ omega arith
-      | then-b-lt32·by·else-b-lt32·then-b-gt126 w ↦ omega arith
-      ])
+      elim (c .then-b-lt32 .came) [
+        | then-b-lt32·by·then-b-lt32 w ↦ omega arith
+        | then-b-lt32·by·else-b-lt32·then-b-gt126 w ↦ omega arith
+      ],
+)
 
 pub loop-b-again : need.loop-b-again
 loop-b-again c =

@@ -4,7 +4,6 @@ use lib.ListN.{length, drop, length-append}
 use mathlib.Core.List.{List, _++_}
 use Prim.Native.Nat.{ℕ, _+_}
 use Rattle.scheme_file.specs.Format.{encode}
-use Rattle.scheme_file.specs.Rules.{body-in}
 use Rattle.scheme_file.proofs.Frames.{framed}
 use Rattle.scheme_file.proofs.checking.step.Needs as need
 
@@ -17,7 +16,7 @@ returns c =
     let admitted = c .in-Continue-next .ensures tt in
     let P : List ℕ → Type 0 = λ b. rest ≡ encode (record { kind = kind; body = b }) ++ drop (4 + length b) rest in
     let front : P body =
-      subst P (sym (frame .1 .1)) (framed rest kind (λ i. omega (arith, c .typed .rest i)) (frame .0) (frame .1 .0))
+    subst P (sym (frame .1 .1)) (framed rest kind (λ i. omega (arith, c .typed .rest i)) (frame .0) (frame .1 .0))
     in
     record {
       next = record { kind = kind; body = body };
@@ -26,5 +25,5 @@ returns c =
       front = front;
       long = omega arith;
       some = omega arith;
-      within = omega (arith, ap length front, length-append body (drop (4 + length body) rest))
+      within = omega (arith, ap length front, length-append body (drop (4 + length body) rest));
     }

@@ -1,4 +1,4 @@
-use mathlib.Core.Path.{_≡_, refl, ap}
+use mathlib.Core.Path.{refl, ap}
 use mathlib.Core.Logic.{inl, inr, ⊎-elim}
 use Rattle.std.proofs.shelf.Results.{err-from-errBy}
 use Rattle.std.proofs.shelf.Lists.{take-rest}
@@ -18,9 +18,17 @@ returns-in-Break-enterable c =
     let value = c .long .ensures .value in
     let failed = rw value at (c .in-Break-enterable .ensures tt) in
     rw (p .1, p .2)
-    (inr (tt, inr (text, inr (tt,
-      ⊎-elim (λ f. inl (λ gives. gives (f .0), ap Refused (f .1)))
-      (λ f. inr (f .0, inl (f .1, ap Refused (f .2)))) failed))))
+    (inr (
+      tt,
+      inr (
+        text,
+        inr (
+          tt,
+          ⊎-elim (λ f. inl (λ gives. gives (f .0), ap Refused (f .1)))
+              (λ f. inr (f .0, inl (f .1, ap Refused (f .2)))) failed,
+        ),
+      ),
+    ))
 
 pub returns : need.returns
 returns c =

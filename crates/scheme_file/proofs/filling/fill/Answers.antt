@@ -1,11 +1,9 @@
-use mathlib.Core.Path.{_≡_, refl, sym, ap, subst, _∙_}
-use mathlib.Core.List.{[]}
+use mathlib.Core.Path.{sym, ap, subst, _∙_}
 use native.Mathlib.Omega.{arith}
-use lib.ListN.{length, take}
+use lib.ListN.{take}
 use Rattle.std.proofs.shelf.Lists.{length-take-le}
-use Rattle.sets.specs.declared.Set.{Set}
 use Rattle.scheme.specs.Edits.{with-wanted}
-use Rattle.scheme.specs.Task.{Task, task-of}
+use Rattle.scheme.specs.Task.{Task}
 use Rattle.scheme_file.specs.Bytes.{le}
 use Rattle.scheme_file.specs.Contents.{Reads}
 use Rattle.scheme_file.proofs.Fills.{whole-read, works-begin, works-end}
@@ -14,9 +12,11 @@ use Rattle.scheme_file.proofs.filling.fill.Needs as need
 pub fill-works-at-requires : need.fill-works-at-requires
 fill-works-at-requires c κs =
     let n = c .args .counts .items in
-    let rows = c .fill-items-at .last .rows in
-    (c .pre .0, ap (λ (k : Task). k .works) (c .open .ensures),
-      works-begin (take n rows) _ n _ (length-take-le n rows (omega (arith, c .pre .1))) (c .fill-items-at .ensures .filled _ (c .pre .2)))
+    let rows = c .fill-items-at .last .rows in (
+      c .pre .0,
+      ap (λ (k : Task). k .works) (c .open .ensures),
+      works-begin (take n rows) _ n _ (length-take-le n rows (omega (arith, c .pre .1))) (c .fill-items-at .ensures .filled _ (c .pre .2)),
+    )
 
 pub add-at : need.add-at
 add-at c =
@@ -58,11 +58,11 @@ returns c =
     let k = c .want-all .ensures ∙ ap (λ (x : Task). with-wanted x w) (c .stand-all .ensures) in
     record {
       read =
-        subst (λ (x : Task). Reads (c .args .bytes .now) x (take m rows) (take (c .args .counts .items) (c .fill-items-at .last .rows))) (sym k)
-        (whole-read (listed .4) (works .4) t s w
+          subst (λ (x : Task). Reads (c .args .bytes .now) x (take m rows) (take (c .args .counts .items) (c .fill-items-at .last .rows))) (sym k)
+          (whole-read (listed .4) (works .4) t s w
           (ap (le 8) (c .from-bits .ensures) ∙ c .long .ensures .bytes ∙ t .first)
           (ap (le 8) (c .from-bits-2 .ensures) ∙ c .long-2 .ensures .bytes ∙ t .second)
           (omega (arith, c .from-bits .ensures)) (omega (arith, c .from-bits-2 .ensures)));
       works = c .fill-works-at .ensures .later;
-      items = c .fill-items-at .ensures .later
+      items = c .fill-items-at .ensures .later;
     }

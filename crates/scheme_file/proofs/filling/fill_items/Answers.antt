@@ -1,8 +1,8 @@
-use mathlib.Core.Path.{_≡_, sym, ap, subst, _∙_}
-use mathlib.Core.List.{List, _∷_, [], _++_}
-use Prim.Native.Nat.{ℕ, _+_, _≤_, _<_}
+use mathlib.Core.Path.{_≡_, sym, subst}
+use mathlib.Core.List.{List}
+use Prim.Native.Nat.{ℕ, _+_, _<_}
 use native.Mathlib.Omega.{arith}
-use lib.ListN.{length, take, drop}
+use lib.ListN.{length, take}
 use Rattle.std.proofs.shelf.Lists.{take-more-set}
 use Rattle.scheme_file.specs.declared.kinds.Kind.the-variants.{Item}
 use Rattle.scheme_file.specs.declared.rows.ItemRow.{ItemRow}
@@ -31,19 +31,25 @@ loop-i-again c =
     let i = c .loop-i .i in
     let at = c .loop-i .at in
     let rows = c .loop-i .rows in
-    let here : i < length rows = omega (arith, c .pre .0) in
-    (λ m s.
-      let t = c .loop-i .inv .0 m s in
-      let n = item-at rows i at (c .args .count) m (omega arith) (c .loop-i-test .taken) t in
-      let at′ = row .name .at + row .name .len in
-      let e : at′ ≡ at + (4 + length (n .body)) = omega (arith, size-here n, made .len, made .start) in
-      let q = after (t .0) Item (n .body) in
-      let A : ℕ → Type 0 = λ x. Ahead bytes x q (t .1) in
-      let L : List ItemRow → Type 0 = λ x. Listed bytes x at′ q in
-      (q, t .1, subst A (sym e) (n .ahead), record { low = omega arith; high = omega arith },
-        subst L (sym (take-more-set rows i row here)) (item-step (take i rows) row n (t .4) (made .number) (made .start) (made .len) at′ e),
-        t .5, t .6),
-    later-more rows (c .args .rows .now) i row (c .loop-i .inv .1))
+    let here : i < length rows = omega (arith, c .pre .0) in (
+      λ m s.
+          let t = c .loop-i .inv .0 m s in
+          let n = item-at rows i at (c .args .count) m (omega arith) (c .loop-i-test .taken) t in
+          let at′ = row .name .at + row .name .len in
+          let e : at′ ≡ at + (4 + length (n .body)) = omega (arith, size-here n, made .len, made .start) in
+          let q = after (t .0) Item (n .body) in
+          let A : ℕ → Type 0 = λ x. Ahead bytes x q (t .1) in
+          let L : List ItemRow → Type 0 = λ x. Listed bytes x at′ q in (
+            q,
+            t .1,
+            subst A (sym e) (n .ahead),
+            record { low = omega arith; high = omega arith },
+            subst L (sym (take-more-set rows i row here)) (item-step (take i rows) row n (t .4) (made .number) (made .start) (made .len) at′ e),
+            t .5,
+            t .6,
+          ),
+      later-more rows (c .args .rows .now) i row (c .loop-i .inv .1),
+    )
 
 pub returns : need.returns
 returns c =

@@ -1,6 +1,6 @@
 use mathlib.Core.Path.{_≡_, sym, ap, subst, _∙_}
 use mathlib.Core.List.{List, _∷_, [], _++_}
-use Prim.Native.Nat.{ℕ, _+_, _≤_, _<_}
+use Prim.Native.Nat.{ℕ, _+_, _<_}
 use native.Mathlib.Omega.{arith}
 use lib.ListN.{length, set, take}
 use Rattle.std.proofs.shelf.Lists.{take-more-set}
@@ -51,8 +51,16 @@ loop-i-again c =
     let grown : works ++ w ∷ [] ≡ task-of (c .enter .last .self) .works = sym (ap (λ (x : Task). x .works) k) in
     let A : ℕ → Type 0 = λ x. Ahead bytes x q (t .1) in
     let R : List WorkRow → Type 0 = λ x. Worked bytes (c .args .from) (works ++ w ∷ []) x at′ q in
-    let W : List scheme.Work → Type 0 = λ x. Worked bytes (c .args .from) x (take (i + 1) (set rows i row)) at′ q in
-    ((q, t .1, subst A (sym e) (n .ahead), record { low = omega arith; high = omega arith },
-        subst W grown (subst R (sym (take-more-set rows i row here)) (step .1)), t .5, t .6),
+    let W : List scheme.Work → Type 0 = λ x. Worked bytes (c .args .from) x (take (i + 1) (set rows i row)) at′ q in (
+      (
+        q,
+        t .1,
+        subst A (sym e) (n .ahead),
+        record { low = omega arith; high = omega arith },
+        subst W grown (subst R (sym (take-more-set rows i row here)) (step .1)),
+        t .5,
+        t .6,
+      ),
       k ∙ ap (λ (x : Task). with-works x (works ++ w ∷ [])) (c .loop-i .inv .1) ∙ ap (with-works (task-of (c .args .scheme .now))) grown,
-      later-more rows (c .args .rows .now) i row (c .loop-i .inv .2))
+      later-more rows (c .args .rows .now) i row (c .loop-i .inv .2),
+    )

@@ -1,4 +1,4 @@
-use mathlib.Core.Path.{_≡_, refl, sym, ap, _∙_}
+use mathlib.Core.Path.{refl, ap, _∙_}
 use Rattle.scheme.specs.Edits.{with-standing}
 use Rattle.scheme.specs.Task.{Task, task-of}
 use Rattle.scheme_file.proofs.Adds.{adding-all, adding-more, adding-none}
@@ -9,9 +9,10 @@ loop-item-holds c = (adding-none _ _ (c .pre), refl)
 
 pub loop-item-again : need.loop-item-again
 loop-item-again c =
-    let next = c .in-Some .ensures tt .steps in
-    (adding-more _ _ _ _ _ (c .in-Some .item) _ (c .loop-item .inv .0) (next .0) (next .1) (next .2) (c .stand .ensures .0),
-      c .stand .ensures .1 ∙ ap (λ (k : Task). with-standing k (c .stand .last .self .standing)) (c .loop-item .inv .1))
+    let next = c .in-Some .ensures tt .steps in (
+      adding-more _ _ _ _ _ (c .in-Some .item) _ (c .loop-item .inv .0) (next .0) (next .1) (next .2) (c .stand .ensures .0),
+      c .stand .ensures .1 ∙ ap (λ (k : Task). with-standing k (c .stand .last .self .standing)) (c .loop-item .inv .1),
+    )
 
 pub returns : need.returns
 returns c =

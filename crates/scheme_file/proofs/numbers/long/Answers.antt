@@ -15,5 +15,5 @@ returns c =
     record {
       value = e;
       bytes =
-        ap (le 8) e ∙ le-value 8 (drop at bytes) (simp length-drop (omega arith)) (λ i. rw getD-drop (omega (arith, c .typed .bytes (at + i))))
+          ap (le 8) e ∙ le-value 8 (drop at bytes) (simp length-drop (omega arith)) (λ i. rw getD-drop (omega (arith, c .typed .bytes (at + i))));
     }

@@ -15,5 +15,5 @@ returns c =
     record {
       value = e;
       bytes =
-        ap (le 2) e ∙ le-value 2 (drop at bytes) (simp length-drop (omega arith)) (λ i. rw getD-drop (omega (arith, c .typed .bytes (at + i))))
+          ap (le 2) e ∙ le-value 2 (drop at bytes) (simp length-drop (omega arith)) (λ i. rw getD-drop (omega (arith, c .typed .bytes (at + i))));
     }

@@ -1,4 +1,4 @@
-use mathlib.Core.Path.{_≡_, refl, sym, ap, _∙_}
+use mathlib.Core.Path.{_≡_, refl, ap, _∙_}
 use mathlib.Core.List.{_++_}
 use Prim.Native.Nat.{_+_, _-_}
 use native.Mathlib.Omega.{arith}
@@ -16,9 +16,9 @@ returns c =
     let k : n ≡ (at + n) - at = omega arith in
     record {
       same =
-        putMid-paste at ((at + n) - at) out (c .copy-from-slice .last .self) bytes n (c .copy-from-slice .ensures .after) k refl
-        ∙ append-assoc (take at out) (take n bytes) (drop (at + n) out)
-        ∙ ap (λ l. take at out ++ (l ++ drop (at + n) out)) (take-all n bytes (omega arith));
+          putMid-paste at ((at + n) - at) out (c .copy-from-slice .last .self) bytes n (c .copy-from-slice .ensures .after) k refl
+          ∙ append-assoc (take at out) (take n bytes) (drop (at + n) out)
+          ∙ ap (λ l. take at out ++ (l ++ drop (at + n) out)) (take-all n bytes (omega arith));
       end = refl;
-      room = c .pre
+      room = c .pre;
     }

@@ -1,14 +1,12 @@
-use mathlib.Core.Path.{_≡_, refl, sym, ap, subst, _∙_}
+use mathlib.Core.Path.{_≡_, sym, ap, _∙_}
 use mathlib.Core.List.{List, map}
-use Prim.Native.Nat.{ℕ, _+_, _≤_, _<_}
+use Prim.Native.Nat.{ℕ, _<_}
 use native.Mathlib.Omega.{arith}
-use native.Mathlib.Nat.{add-zero}
-use lib.ListN.{length, take, drop, getD, length-map}
-use Rattle.std.proofs.shelf.Lists.{getD-map, take-all, take-append-drop}
+use lib.ListN.{length, getD, length-map}
+use Rattle.std.proofs.shelf.Lists.{getD-map, take-all}
 use Rattle.scheme_file.specs.declared.rows.ItemRow.{ItemRow}
 use Rattle.scheme_file.specs.Contents.{item-in}
 use Rattle.scheme_file.specs.Format.{Record, bytes-of, encode, item-record}
-use Rattle.scheme_file.specs.Passes.{Wrote}
 use Rattle.scheme_file.proofs.Puts.{record-room, record-step, wrote-as, wrote-length, wrote-none}
 use Rattle.scheme_file.proofs.Vets.{items-at, name-size}
 use Rattle.scheme_file.proofs.putting.put_items.Needs as need
@@ -25,10 +23,11 @@ at-row : (items : List ItemRow) (text : List ℕ) (i : ℕ) → i < length items
     (i < length (all items text)) × (item-record (item-in text (getD items i none)) ≡ getD (all items text) i (item-record (item-in text none)))
 at-row items text i lt =
     let named = map (item-in text) items in
-    let l = length-map items (item-in text) in
-    (omega (arith, l, length-map named item-record),
+    let l = length-map items (item-in text) in (
+      omega (arith, l, length-map named item-record),
       sym (getD-map item-record named i (item-in text none) (item-record (item-in text none)) (omega arith)
-        ∙ ap item-record (getD-map (item-in text) items i none (item-in text none) lt)))
+          ∙ ap item-record (getD-map (item-in text) items i none (item-in text none) lt)),
+    )
 
 pub loop-row-holds : need.loop-row-holds
 loop-row-holds c = wrote-none (c .args .out .now) (c .args .from) (omega (arith, c .pre .1))
@@ -43,7 +42,7 @@ put-item-at-requires c κs =
     let long = name-size text (row .name) (fits .lies) in
     let r = at-row items text i (c .loop-row-test .taken) in
     let room = record-room (all items text) i (item-record (item-in text none)) (r .0) (c .args .from) (c .loop-row .at) (length (c .args .out .now))
-      (c .loop-row .inv .end) (c .pre .1)
+    (c .loop-row .inv .end) (c .pre .1)
     in
     (fits .lies, omega (arith, fits .name .short), omega (arith, room, ap (λ x. length (encode x)) (r .1), wrote-length (c .loop-row .inv)))
 

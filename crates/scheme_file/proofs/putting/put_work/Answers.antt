@@ -1,9 +1,9 @@
-use mathlib.Core.Path.{_≡_, ap, _∙_}
+use mathlib.Core.Path.{ap, _∙_}
 use Prim.Native.Nat.{_+_}
 use native.Mathlib.Omega.{arith}
 use Rattle.scheme_file.specs.declared.kinds.Kind.the-variants.{Work}
 use Rattle.scheme_file.specs.Bytes.{le}
-use Rattle.scheme_file.specs.Contents.{bytes-at, entry-in}
+use Rattle.scheme_file.specs.Contents.{entry-in}
 use Rattle.scheme_file.specs.Format.{work-record}
 use Rattle.scheme_file.proofs.Puts.{frame-body, wrote-as, wrote-more}
 use Rattle.scheme_file.proofs.Vets.{name-size}
@@ -16,7 +16,7 @@ returns c =
     let body = work-record (entry-in text (c .args .work) row) .body in
     wrote-as (frame-body Work (20 + row .name .len) body (omega (arith, name-size text (row .name) (c .pre .0 .lies))))
     (wrote-more (c .put-frame-at .ensures)
-      (wrote-more (wrote-as (c .long-bytes .ensures ∙ ap (le 8) (c .bits .ensures)) (c .put-at .ensures))
-      (wrote-more (wrote-as (c .long-bytes-2 .ensures ∙ ap (le 8) (c .bits-2 .ensures)) (c .put-at-2 .ensures))
-      (wrote-more (wrote-as (c .word-bytes .ensures) (c .put-at-3 .ensures))
-      (wrote-more (wrote-as (c .word-bytes-2 .ensures) (c .put-at-4 .ensures)) (c .put-name .ensures))))))
+    (wrote-more (wrote-as (c .long-bytes .ensures ∙ ap (le 8) (c .bits .ensures)) (c .put-at .ensures))
+    (wrote-more (wrote-as (c .long-bytes-2 .ensures ∙ ap (le 8) (c .bits-2 .ensures)) (c .put-at-2 .ensures))
+    (wrote-more (wrote-as (c .word-bytes .ensures) (c .put-at-3 .ensures))
+    (wrote-more (wrote-as (c .word-bytes-2 .ensures) (c .put-at-4 .ensures)) (c .put-name .ensures))))))

@@ -1,6 +1,6 @@
 use mathlib.Core.Path.{_≡_, sym, ap, _∙_}
 use mathlib.Core.List.{List, map}
-use Prim.Native.Nat.{ℕ, _+_, _≤_, _<_}
+use Prim.Native.Nat.{ℕ, _<_}
 use native.Mathlib.Omega.{arith}
 use lib.ListN.{length, getD, length-map}
 use Rattle.std.proofs.shelf.Lists.{getD-map, take-all}
@@ -27,10 +27,11 @@ at-row : (works : List Work) (rows : List WorkRow) (text : List ℕ) (i : ℕ) �
     × (work-record (entry-in text (getD works i idle) (getD rows i none)) ≡ getD (all works rows text) i (work-record (entry-in text idle none)))
 at-row works rows text i level lt =
     let xs = entries text works rows in
-    let l = length-entries text works rows (sym level) in
-    (omega (arith, l, length-map xs work-record),
+    let l = length-entries text works rows (sym level) in (
+      omega (arith, l, length-map xs work-record),
       sym (getD-map work-record xs i (entry-in text idle none) (work-record (entry-in text idle none)) (omega arith)
-        ∙ ap work-record (getD-entries text works rows i idle none level)))
+          ∙ ap work-record (getD-entries text works rows i idle none level)),
+    )
 
 pub loop-i-holds : need.loop-i-holds
 loop-i-holds c = wrote-none (c .args .out .now) (c .args .from) (omega (arith, c .pre .1))
@@ -46,7 +47,7 @@ put-work-at-requires c κs =
     let long = name-size text (row .name) (fits .lies) in
     let r = at-row works rows text i (c .pre .0 .level) (c .loop-i-test .taken) in
     let room = record-room (all works rows text) i (work-record (entry-in text idle none)) (r .0) (c .args .from) (c .loop-i .at) (length (c .args .out .now))
-      (c .loop-i .inv .end) (c .pre .1)
+    (c .loop-i .inv .end) (c .pre .1)
     in
     (fits, omega (arith, fits .name .short), omega (arith, room, ap (λ x. length (encode x)) (r .1), wrote-length (c .loop-i .inv)))
 

@@ -1,7 +1,7 @@
-use mathlib.Core.Path.{_≡_, refl, sym, ap, subst, _∙_}
-use Prim.Native.Nat.{_+_, _≤_, _<_}
+use mathlib.Core.Path.{refl, ap, _∙_}
+use Prim.Native.Nat.{_+_}
 use native.Mathlib.Omega.{arith}
-use lib.ListN.{length, take, getD}
+use lib.ListN.{take, getD}
 use Rattle.std.proofs.shelf.Lists.{take-all, take-more}
 use Rattle.scheme.specs.Task.{idle}
 use Rattle.scheme_file.specs.declared.rows.WorkRow.{WorkRow}
@@ -25,8 +25,11 @@ loop-row-again c =
     let more = works-push (take i works) (take i rows) (c .args .text .now) (getD works i idle) row (c .loop-row .inv .0) one in
     let w = take-more works i idle (omega arith) in
     let r = take-more rows i none (c .loop-row-test .taken) in
-    rw (w, r) (more .0, ap (λ n. n + (24 + row .name .len)) (c .loop-row .inv .1) ∙ more .1,
-      omega (arith, c .loop-row .inv .2, one .name .short, name-size (c .args .text .now) (row .name) (one .lies)))
+    rw (w, r) (
+      more .0,
+      ap (λ n. n + (24 + row .name .len)) (c .loop-row .inv .1) ∙ more .1,
+      omega (arith, c .loop-row .inv .2, one .name .short, name-size (c .args .text .now) (row .name) (one .lies)),
+    )
 
 pub returns : need.returns
 returns c =

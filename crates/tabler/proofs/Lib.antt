@@ -1,0 +1,3 @@
+mod BestChoices
+mod Drawing
+mod Subsets
