@@ -8,7 +8,7 @@ use native.Mathlib.Omega.{arith}
 use lib.ListN.{length, getD, set}
 use lib.Seq.{getD-set-same, getD-set-other}
 use Rattle.sets.specs.declared.Set.{Set}
-use Rattle.sets.specs.Member.{Has, Members, Meet, Sub, none}
+use Rattle.sets.specs.Member.{Has, Members, Sub, none}
 use Rattle.sets.proofs.Laws.{has-or-not, none-has}
 use Rattle.tariff.specs.Amounts.{Scale}
 use Rattle.chooser.specs.Least.{Precedes}

@@ -1,5 +1,4 @@
 -- Subsets of the kept sets, as sets of places.
-use mathlib.Core.Logic.{_⊎_, inl, inr, ⊎-elim}
 use mathlib.Core.List.{List}
 use mathlib.Core.Path.{_≡_, sym, subst}
 use Prim.Native.Nat.{ℕ, _+_, _-_, _^_, _<_, _≤_}

@@ -11,7 +11,13 @@ use tariff::Tariff;
 
 /// The best choice for the subset of the sets whose number is `m`, where the table holds those for lower numbers. `free` meets each
 /// set of the subset.
-pub(crate) fn entry<T: Tariff>(prices: &[T::Value], free: Set, sets: &[Set], table: &[Set], m: usize) -> Set
+pub(crate) fn entry<T: Tariff>(
+    prices: &[T::Value],
+    free: Set,
+    sets: &[Set],
+    table: &[Set],
+    m: usize,
+) -> Set
     requires capped { ⌜ Set-capped (T·Tariff .scale) (now prices) free ⌝ }
     requires met { ⌜ Met (now sets) (record { bits = m }) free ⌝ }
     requires few { ⌜ m < 2 ^ length (now sets) ⌝ }
@@ -28,7 +34,14 @@ pub(crate) fn entry<T: Tariff>(prices: &[T::Value], free: Set, sets: &[Set], tab
 
 /// The best choice for a subset of the sets, one of which is at `place`: the choice has a work of that set, and with it the best choice
 /// for the sets that lack the work.
-fn pick<T: Tariff>(prices: &[T::Value], free: Set, sets: &[Set], table: &[Set], subset: Set, place: usize) -> Set
+fn pick<T: Tariff>(
+    prices: &[T::Value],
+    free: Set,
+    sets: &[Set],
+    table: &[Set],
+    subset: Set,
+    place: usize,
+) -> Set
     requires capped { ⌜ Set-capped (T·Tariff .scale) (now prices) free ⌝ }
     requires met { ⌜ Met (now sets) subset free ⌝ }
     requires long { ⌜ subset .bits ≤ length (now table) ⌝ }

@@ -1,5 +1,5 @@
 //! A chooser of at most twelve kept sets, by dynamic programming over their subsets: a draw tabulates, for each subset of the kept
-//! sets, the least set of works that meets those in it.
+//! sets, the least set of works that meets those in it. The table lies on the stack, so a draw allocates nothing.
 //!
 //! - `making`: an empty chooser.
 //! - `choosing`: what every chooser promises.

@@ -5,7 +5,7 @@ use Rattle.sets.specs.declared.Set.{Set}
 use Rattle.sets.specs.Member.{Has}
 use Rattle.sets.proofs.Laws.{has-below}
 use native.Mathlib.Omega.{arith}
-use Rattle.tabler.specs.Table.{Filled, Met}
+use Rattle.tabler.specs.Table.{Met}
 use Rattle.tabler.proofs.BestChoices.{best-none}
 use Rattle.tabler.proofs.entry.entry.Needs as need
 

@@ -2,7 +2,6 @@ use mathlib.Core.Path.{_≡_, ap, subst}
 use Prim.Native.Nat.{ℕ, _-_, _^_, _<_}
 use native.Mathlib.Omega.{arith}
 use lib.ListN.{length, getD, length-set}
-use Rattle.sets.specs.declared.Set.{Set}
 use Rattle.sets.specs.Member.{none}
 use Rattle.tabler.specs.Table.{Best}
 use Rattle.tabler.proofs.BestChoices.{filled-more}
@@ -24,7 +23,7 @@ pub fill-again : need.fill-again
 fill-again g c = (
   simp length-set (c .fill .inv .0),
   filled-more (g .T·Tariff .scale) (c .args .prices .now) (c .args .free) (c .args .sets .now) (c .fill .table) (c .fill .m)
-  (c .entry-best .result) (omega arith) (c .fill .inv .1) (c .entry-best .ensures),
+      (c .entry-best .result) (omega arith) (c .fill .inv .1) (c .entry-best .ensures),
 )
 
 pub returns : need.returns
