@@ -16,6 +16,8 @@ pub use costs::set_cost;
 pub use determined::draws_are_determined;
 pub use interface::Chooser;
 pub use interface::Full;
+pub use interface::FullDebug;
+pub use interface::FullPartialEq;
 pub use permitted::allowed;
 pub use permitted::candidates;
 pub use preference::precedes;

@@ -1,5 +1,7 @@
 //! Tests of the public calls on worked junctions.
 #[cfg(test)]
+mod files;
+#[cfg(test)]
 mod junctions;
 #[cfg(test)]
 mod refusing;

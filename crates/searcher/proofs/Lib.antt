@@ -1,0 +1,5 @@
+mod Families
+mod Floors
+mod Prices
+mod Steps
+mod Walks
