@@ -45,6 +45,6 @@ pub impl Chooser for Searcher as SearcherChooser {
 
     fn draw<T: Tariff>(&self, prices: &[T::Value], bars: Set) -> Option<Set> {
         let sets = self.sets.as_slice();
-        least::<T>(prices, sets, candidates::<T>(prices, bars, sets))
+        least::<T>(prices, sets, candidates::<T>(prices, bars, sets)).best
     }
 }

@@ -2,6 +2,7 @@
 //! the parts that cannot hold the least set.
 //!
 //! - `making`: a searcher with places for 64 sets.
+//! - `measuring`: how much a draw does.
 //! - `choosing`: what it does as a chooser.
 //! - `search`: the walk over the nodes.
 //! - `step`: what is done at one node.
@@ -19,6 +20,7 @@ mod branching;
 mod cheapest;
 mod choosing;
 mod making;
+mod measuring;
 mod node;
 mod pruning;
 mod search;

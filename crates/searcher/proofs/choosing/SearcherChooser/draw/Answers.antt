@@ -15,7 +15,7 @@ returns g c =
     let prices = c .args .prices .now in
     let sets = c .as-slice-sets .result .now in
     let free = c .candidates .result in
-    let Drawn : List Set → Type 0 = λ kept. Draws t prices (c .args .bars) kept (c .least .result) in
+    let Drawn : List Set → Type 0 = λ kept. Draws t prices (c .args .bars) kept (c .least .result .best) in
     subst Drawn (c .as-slice-sets .ensures .value)
-    (searched-draws t prices free sets (c .args .bars) (candidates-held t prices (c .args .bars) sets free (c .candidates .ensures)) (c .least .result)
+    (searched-draws t prices free sets (c .args .bars) (candidates-held t prices (c .args .bars) sets free (c .candidates .ensures)) (c .least .result .best)
     (c .least .ensures))
