@@ -38,7 +38,7 @@ part-cut xs at len start n first second =
         let same : start ≡ at = omega arith in
         ap (λ k. take n (drop k xs)) same
         ∙ ⊎-elim (λ lt. rest le (omega arith)) (λ room. let whole : n ≡ len = omega arith in ap (λ k. take k (drop at xs)) whole)
-          (cases-lt (length xs - at) len)
+        (cases-lt (length xs - at) len)
 
 pub work-in-at : (bytes : List ℕ) (rows : List WorkRow) (w : ℕ) (d : WorkRow) → w < length rows →
     work-in bytes rows w ≡ bytes-at bytes (getD rows w d .name)

@@ -96,7 +96,13 @@ fn refused(heap: Global, fault: Fault) -> Result<Vec<u8>, AllocError>
 }
 
 /// The record of the scheme in a file, or its fault, with a scheme and rows to fill.
-fn inspect_with(heap: Global, bytes: &[u8], scheme: &mut Scheme, works: &mut [WorkRow], items: &mut [ItemRow]) -> Result<Vec<u8>, AllocError>
+fn inspect_with(
+    heap: Global,
+    bytes: &[u8],
+    scheme: &mut Scheme,
+    works: &mut [WorkRow],
+    items: &mut [ItemRow],
+) -> Result<Vec<u8>, AllocError>
     ensures { λ r. ⌜ made r (λ v. Inspected (now (bytes .entry)) (length (now (works .entry))) (length (now (items .entry))) (vec-items v)) ⌝ }
 {
     match read(bytes, scheme, works, items) {
@@ -109,7 +115,13 @@ fn inspect_with(heap: Global, bytes: &[u8], scheme: &mut Scheme, works: &mut [Wo
 }
 
 /// The record of a scheme that was read from a file, with the rows that were filled.
-fn record_file<'a>(heap: Global, bytes: &'a [u8], scheme: &Scheme, works: &'a [WorkRow], items: &'a [ItemRow]) -> Result<Vec<u8>, AllocError>
+fn record_file<'a>(
+    heap: Global,
+    bytes: &'a [u8],
+    scheme: &Scheme,
+    works: &'a [WorkRow],
+    items: &'a [ItemRow],
+) -> Result<Vec<u8>, AllocError>
     ensures { λ r. ⌜ made r (λ v. Recorded (task-of (now (scheme .entry))) (work-in (now (bytes .entry)) (now (works .entry))) (item-in (now (bytes .entry)) (now (items .entry))) (vec-items v)) ⌝ }
 {
     let names = FileNames {

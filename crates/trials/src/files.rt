@@ -147,18 +147,31 @@ fn independent(bytes: &[u8]) -> Finding {
 
 /// Whether the reader and the independent reading agree.
 fn agree(bytes: &[u8], scheme: &mut Scheme) -> bool {
-    let mut works = [WorkRow { pounds: 0, hours: 0, name: NAMES[0] }; 64];
-    let mut items = [ItemRow { number: 0, name: NAMES[0] }; 64];
+    let mut works = [WorkRow {
+        pounds: 0,
+        hours: 0,
+        name: NAMES[0],
+    }; 64];
+    let mut items = [ItemRow {
+        number: 0,
+        name: NAMES[0],
+    }; 64];
     let found = independent(bytes);
     match read(bytes, scheme, &mut works, &mut items) {
         Ok(_) => found.number == 0,
-        Err(fault) => fault.cause.number() == found.number && fault.index == found.index && fault.offset == found.offset,
+        Err(fault) => fault.cause.number() == found.number
+            && fault.index == found.index
+            && fault.offset == found.offset,
     }
 }
 
 /// The rows of the sample junction.
 fn work_rows() -> [WorkRow; 7] {
-    let mut rows = [WorkRow { pounds: 900, hours: 65_535, name: NAMES[0] }; 7];
+    let mut rows = [WorkRow {
+        pounds: 900,
+        hours: 65_535,
+        name: NAMES[0],
+    }; 7];
     for i in 0..7usize {
         rows[i].name = NAMES[i];
     }
@@ -166,9 +179,18 @@ fn work_rows() -> [WorkRow; 7] {
 }
 
 const ITEMS: [ItemRow; 3] = [
-    ItemRow { number: 0, name: Name { at: 6, len: 4 } },
-    ItemRow { number: 3, name: Name { at: 44, len: 9 } },
-    ItemRow { number: 63, name: Name { at: 36, len: 8 } },
+    ItemRow {
+        number: 0,
+        name: Name { at: 6, len: 4 },
+    },
+    ItemRow {
+        number: 3,
+        name: Name { at: 44, len: 9 },
+    },
+    ItemRow {
+        number: 63,
+        name: Name { at: 36, len: 8 },
+    },
 ];
 
 /// Each prefix of a file.

@@ -30,6 +30,6 @@ returns-in-Ok c =
       rows = rows;
       items = items;
       reads = subst₂ Held (sym (sub-zero (n .works))) (sym (sub-zero (n .items))) (filled .reads);
-      recorded = recorded
+      recorded = recorded;
     }))
     (c .record-file .ensures)

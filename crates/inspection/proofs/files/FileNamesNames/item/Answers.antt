@@ -13,7 +13,7 @@ returns-then-row-number c =
     let names = c .args .self .now in
     c .part .ensures
     ∙ sym (c .loop-row .inv
-      ∙ item-here (names .bytes .now) (names .items .now) (c .args .number) (c .loop-row .row-index) _ (c .loop-row-test .taken) (c .if-row-number .taken))
+    ∙ item-here (names .bytes .now) (names .items .now) (c .args .number) (c .loop-row .row-index) _ (c .loop-row-test .taken) (c .if-row-number .taken))
 
 pub loop-row-again : need.loop-row-again
 loop-row-again c =
@@ -25,4 +25,4 @@ pub returns : need.returns
 returns c =
     let names = c .args .self .now in
     sym (c .loop-row .inv
-      ∙ ap (λ rows. item-in (names .bytes .now) rows (c .args .number)) (drop-all (c .loop-row .row-index) (names .items .now) (c .loop-row-test .left)))
+    ∙ ap (λ rows. item-in (names .bytes .now) rows (c .args .number)) (drop-all (c .loop-row .row-index) (names .items .now) (c .loop-row-test .left)))
