@@ -59,6 +59,10 @@ module _ {V : Type 0} (t : Scale V) (capacity : ℕ) (k after : Task) (kept : Li
     pub effect-not-wanted : (e : Refusal) → Wanted k i (Err e) after → Effect t capacity k kept (want i) after kept
     effect-not-wanted e h = effect-as (wanted-kept (h .1) (h .0 .2)) (not-added (inl (h .0 .1)))
 
+    pub effect-want : (r : Result Bool Refusal) → Wanted k i r after → Effect t capacity k kept (want i) after kept
+    effect-want (Ok b) h = effect-wanted b h
+    effect-want (Err e) h = effect-not-wanted e h
+
     pub effect-waived : Waived k i (Ok tt) after → Effect t capacity k kept (waive i) after []
     effect-waived h = effect-as (h .2) (waived (h .0) (h .1))
 

@@ -5,5 +5,12 @@ pub mod Outcomes
 pub mod Flaws
 pub mod Unique
 pub mod Existence
-pub mod Rounds
+pub mod Runs
 pub mod Effects
+pub mod Settling
+pub mod Asking
+pub mod Papers
+pub mod Judging
+pub mod Agreeing
+pub mod Histories
+pub mod Exits

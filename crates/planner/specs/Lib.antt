@@ -3,3 +3,7 @@ pub mod Marks
 pub mod Calls
 pub mod Promises
 pub mod Theorems
+pub mod Steps
+pub mod Views
+pub mod Asks
+pub mod Papers

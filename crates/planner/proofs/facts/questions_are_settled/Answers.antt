@@ -1,6 +1,6 @@
 use Rattle.planner.proofs.Existence.{asked-exists}
 use Rattle.planner.proofs.Outcomes.{asked-right}
-use Rattle.planner.proofs.Rounds.{asked-rounds-most}
+use Rattle.planner.proofs.Runs.{asked-rounds-most}
 use Rattle.planner.proofs.Unique.{asked-unique}
 use Rattle.planner.proofs.facts.questions_are_settled.Needs as need
 
