@@ -1,4 +1,6 @@
 //! Reads a scheme file from the standard input and prints its cheapest order in pounds, or why there is none.
+#![tactic(auto)]
+
 use anyhow::anyhow;
 use planner::Planner;
 use report::{INPUT, PAGE, report_cheapest};

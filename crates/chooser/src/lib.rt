@@ -5,6 +5,8 @@
 //! - `costs`: the totals of sets and of orders of works.
 //! - `preference`: which of two sets comes first.
 //! - `determined`: every draw has one answer.
+#![tactic(auto)]
+
 mod costs;
 mod determined;
 mod interface;

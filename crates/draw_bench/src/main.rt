@@ -1,5 +1,7 @@
 //! Draws on fixed families of kept sets: how many nodes the searcher goes through and, with the argument `times`, how long it and the
 //! tabler take.
+#![tactic(auto)]
+
 mod families;
 
 use chooser::Chooser;

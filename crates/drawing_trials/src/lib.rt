@@ -1,4 +1,6 @@
 //! Random trials of the choosers against a trial of every set of works.
+#![tactic(auto)]
+
 #[cfg(test)]
 mod agreeing;
 #[cfg(test)]

@@ -1,4 +1,6 @@
 //! Reads a scheme file from the standard input and prints the record of its scheme, or why it is refused.
+#![tactic(auto)]
+
 use inspection::{INPUT, inspect_file};
 use std::io::{Read, Write};
 

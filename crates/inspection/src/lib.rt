@@ -1,4 +1,6 @@
 //! What is printed of a scheme and of a scheme file, and a sample junction.
+#![tactic(auto)]
+
 mod files;
 mod names;
 mod records;

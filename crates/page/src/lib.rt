@@ -2,6 +2,8 @@
 //!
 //! - `putting`: bytes and decimal numbers put at an offset, and counted where the page is too short for them.
 //! - `texts`: what can be put, and a whole text put from the start, or refused.
+#![tactic(auto)]
+
 mod putting;
 mod texts;
 

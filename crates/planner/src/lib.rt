@@ -8,6 +8,8 @@
 //! - `editing`: opening and editing a planner's scheme.
 //! - `files`: reading and writing scheme files.
 //! - `landmarks`: what a planner holds and keeps.
+#![tactic(auto)]
+
 mod conducting;
 mod editing;
 mod files;

@@ -1,4 +1,6 @@
 //! Tests of a planner's calls on worked junctions.
+#![tactic(auto)]
+
 #[cfg(test)]
 mod asking;
 #[cfg(test)]

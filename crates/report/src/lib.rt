@@ -3,6 +3,8 @@
 //! - `reporting`: from a file's bytes to the bytes printed.
 //! - `answers`: the lines of an answer.
 //! - `refusals`: the line of a refusal or a fault.
+#![tactic(auto)]
+
 mod answers;
 mod refusals;
 mod reporting;

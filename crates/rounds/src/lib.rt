@@ -3,6 +3,8 @@
 //! - `checks`: what a question or a marking is refused for before anything is done.
 //! - `runs`: rounds of a draw and a landmark, until the drawn set is sufficient.
 //! - `finding`: the cheapest sufficient set of unbarred works.
+#![tactic(auto)]
+
 mod checks;
 mod finding;
 mod runs;

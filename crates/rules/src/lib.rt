@@ -2,6 +2,8 @@
 //!
 //! The definitions stand in `specs/`: `Rules` (rounds, runs and questions), `Marks` (markings), `Calls` (lists of calls), `Promises`
 //! (what is right) and `Theorems`, each of which is the contract of a function here.
+#![tactic(auto)]
+
 mod facts;
 
 pub use facts::{

@@ -1,5 +1,7 @@
 //! A scheme of works at a junction: the items that its works can make stand, the orders in which they can be carried out, and the
 //! landmarks that no order can do without.
+#![tactic(auto)]
+
 ghost use Rattle.std.specs.Prelude.{◌≤◌, vec_len, vec_capacity};
 
 use sets::Set;

@@ -20,6 +20,8 @@
 //! - `vetting`: whether rows can be written
 //! - `putting`: putting records into lent bytes
 //! - `rewriting`: reading a file and writing it back
+#![tactic(auto)]
+
 mod causes;
 mod checking;
 mod filling;

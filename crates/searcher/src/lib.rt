@@ -12,6 +12,8 @@
 //! - `cheapest`: the cheapest work of a set.
 //! - `node`: a part of the sets of works.
 //! - `stack`: the nodes still to do.
+#![tactic(auto)]
+
 ghost use Rattle.std.specs.Prelude.{◌≤◌, vec_len, vec_capacity};
 
 mod bound;

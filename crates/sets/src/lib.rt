@@ -1,4 +1,6 @@
 //! Sets of numbers from 0 to 63, each held in one 64-bit number in which member k weighs 2 to the power k.
+#![tactic(auto)]
+
 mod algebra;
 mod iter;
 mod making;

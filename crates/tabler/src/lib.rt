@@ -5,6 +5,8 @@
 //! - `choosing`: what every chooser promises.
 //! - `table`: the table of a draw, and its last entry.
 //! - `entry`: one entry of the table, from those before it.
+#![tactic(auto)]
+
 ghost use Rattle.std.specs.Prelude.{◌≤◌, vec_len, vec_capacity};
 
 use sets::Set;

@@ -1,4 +1,6 @@
 //! Tests of the public calls on worked junctions.
+#![tactic(auto)]
+
 #[cfg(test)]
 mod files;
 #[cfg(test)]

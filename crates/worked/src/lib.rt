@@ -2,6 +2,8 @@
 //!
 //! `worked_cases` returns a table. Its contract says that the rules of questions, papers and lists of calls, which the planner's contracts cite too,
 //! give the numbers of the table and no others.
+#![tactic(auto)]
+
 ghost use Rattle.worked.specs.Worked.{Worked, OnTheSample, OnOthers};
 
 /// An answer in pounds: the works in order, their total and the number of rounds.
