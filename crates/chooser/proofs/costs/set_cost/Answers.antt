@@ -5,9 +5,9 @@ use Rattle.chooser.proofs.costs.set_cost.Goals as goal
 
 pub loop-w-init : goal.loop-w-init
 loop-w-init g c _ =
-    let start = c.into-iter-w-iterator.result.rest in
+    let start = c.into_iter-w-iterator.result.rest in
     let same : start ≡ c.args.set =
-    ap (λ i. i.rest) c.into-iter-w-iterator.ensures.into-iter-gives ∙ c.iter-w-items.ensures
+    ap (λ i. i.rest) c.into_iter-w-iterator.ensures.into_iter-gives ∙ c.iter-w-items.ensures
     in
     let small : start.bits < 2 ^ 64 = omega (arith, ap (λ s. s.bits) same) in
     tally_none g.T.Tariff.scale c.args.prices.now start c.nothing-total.result small c.nothing-total.ensures
@@ -16,7 +16,7 @@ pub loop-w-preserved : goal.loop-w-preserved
 loop-w-preserved g c capped =
     let step = c.in-Some.ensures.steps in
     let so_far = c.loop-w.invariant capped in
-    tally_more g.T.Tariff.scale c.args.prices.now c.into-iter-w-iterator.result.rest c.loop-w.total c.charge-total.result
+    tally_more g.T.Tariff.scale c.args.prices.now c.into_iter-w-iterator.result.rest c.loop-w.total c.charge-total.result
     c.loop-w.w-iterator.rest c.next.new.self.rest c.in-Some.w so_far step.0.member step.2
     (capped c.in-Some.w (so_far.inside c.in-Some.w step.0.member)) c.charge-total.ensures
 
@@ -24,9 +24,9 @@ pub returns : goal.returns
 returns g c capped =
     let t = g.T.Tariff.scale in
     let prices = c.args.prices.now in
-    let start = c.into-iter-w-iterator.result.rest in
+    let start = c.into_iter-w-iterator.result.rest in
     let same : start ≡ c.args.set =
-    ap (λ i. i.rest) c.into-iter-w-iterator.ensures.into-iter-gives ∙ c.iter-w-items.ensures
+    ap (λ i. i.rest) c.into_iter-w-iterator.ensures.into_iter-gives ∙ c.iter-w-items.ensures
     in
     tally_all t prices start c.loop-w.total c.loop-w.w-iterator.rest
     (c.loop-w.invariant (rw same capped)) c.in-None.ensures.steps.0

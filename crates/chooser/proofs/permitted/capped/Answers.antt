@@ -6,7 +6,7 @@ use Rattle.sets.proofs.Laws.{none_has, filled_with, filled_over, added_member}
 use Rattle.chooser.specs.Least.{Capped}
 use Rattle.chooser.proofs.Tallies.{capped_of, within_of}
 use Rattle.chooser.proofs.permitted.capped.Goals as goal
-use Rattle.chooser.proofs.permitted.capped.Goals.{then-is-price, else-is-price}
+use Rattle.chooser.proofs.permitted.capped.Goals.{then-is_price, else-is_price}
 
 -- no works are below 0
 none_below : (P : ℕ → Type 0) (s : Set) → s ≡ none → Members s (λ k. (k < 0) × P k)
@@ -39,16 +39,16 @@ loop-w-preserved g c =
     let held : n < length prices = c.loop-w-test.true in
     let P : ℕ → Type 0 = λ w. (w < length prices) × Capped t prices w × (w < 64) in
     let After : Set → Type 0 = λ found. Members found (λ k. (k < n + 1) × P k) in
-    elim c.if-is-price.branch [
-      | then-is-price w ↦
-          let within = c.is-price.ensures.0 w.if-is-price.true in
+    elim c.if-is_price.branch [
+      | then-is_price w ↦
+          let within = c.is_price.ensures.0 w.if-is_price.true in
           subst After (sym w.found-is)
           (next_with P n c.loop-w.found w.with-found.result c.loop-w.invariant (λ k p. p.2)
           (λ lt. (held, capped_of t prices n price held c.index-prices-w.is within, lt)) w.with-found.ensures)
-      | else-is-price w ↦
+      | else-is_price w ↦
           let no_price : P n → ⊥ = λ p.
-          let yes-price = c.is-price.ensures.1 (within_of t prices n price held c.index-prices-w.is p.1) in
-          let never : true ≡ false = sym yes-price ∙ w.if-is-price.false in
+          let yes-price = c.is_price.ensures.1 (within_of t prices n price held c.index-prices-w.is p.1) in
+          let never : true ≡ false = sym yes-price ∙ w.if-is_price.false in
           let clash : ◌≡◌ {A = ℕ} 0 1 = cc in
           omega arith
           in

@@ -18,7 +18,7 @@ returns-in-Ok c =
     let rows = take (n.works - 0) c.read.new.works in
     let items = take (n.items - 0) c.read.new.items in
     let Held : ℕ → ℕ → Type 0 = λ w i. Reads bytes k (take w c.read.new.works) (take i c.read.new.items) in
-    made_to c.record-file.result (λ v. Recorded k (work_in bytes rows) (item_in bytes items) (vec_items v))
+    made_to c.record_file.result (λ v. Recorded k (work_in bytes rows) (item_in bytes items) (vec_items v))
     (λ v. Inspected bytes (length c.args.works.now) (length c.args.items.now) (vec_items v))
     (λ v recorded. inl (record {
       task = k;
@@ -27,4 +27,4 @@ returns-in-Ok c =
       reads = subst₂ Held (sym (sub-zero n.works)) (sym (sub-zero n.items)) filled.reads;
       recorded = recorded;
     }))
-    c.record-file.ensures
+    c.record_file.ensures

@@ -5,9 +5,9 @@ use Rattle.inspection.proofs.records.add_entry.Goals as goal
 
 pub returns : goal.returns
 returns c =
-    let lent = c.as-bytes.ensures.value in
-    let digits = c.in-ok-digits.ensures.ok in
-    let added = c.in-ok-extend-from-slice.ensures.items in
+    let lent = c.as_bytes.ensures.value in
+    let digits = c.in_ok-digits.ensures.ok in
+    let added = c.in_ok-extend_from_slice.ensures.items in
     three_parts (vec_items c.args.text.now) (decimal c.args.number) (behind c.args.name.now) (codes "\n")
-    (vec_items c.extend-from-slice.new.self) (vec_items c.add-name.new.text) (vec_items c.extend-from-slice-2.new.self)
-    (cc) c.in-ok-add-name.ensures c.in-ok-extend-from-slice-2.ensures.items
+    (vec_items c.extend_from_slice.new.self) (vec_items c.add_name.new.text) (vec_items c.extend_from_slice-2.new.self)
+    (cc) c.in_ok-add_name.ensures c.in_ok-extend_from_slice-2.ensures.items

@@ -8,9 +8,9 @@ pub loop-number-preserved : goal.loop-number-preserved
 loop-number-preserved g c =
     let line : ℕ → List ℕ = λ w. entry w (g.N.Names.works c.args.names.now w) in
     let w = get_or c.args.order.now c.loop-number.number-index 0 in
-    next_place line (vec_items c.args.text.now) (vec_items c.loop-number.text) (vec_items c.add-entry.new.text)
+    next_place line (vec_items c.args.text.now) (vec_items c.loop-number.text) (vec_items c.add_entry.new.text)
     c.args.order.now c.loop-number.number-index c.loop-number-test.true c.loop-number.invariant
-    (c.in-ok-add-entry.ensures ∙ ap (λ name. vec_items c.loop-number.text ++ entry w name) c.work.ensures)
+    (c.in_ok-add_entry.ensures ∙ ap (λ name. vec_items c.loop-number.text ++ entry w name) c.work.ensures)
 
 pub returns : goal.returns
 returns g c =

@@ -12,17 +12,17 @@ returns g c =
     let work_line : ℕ → List ℕ = λ w. entry w (g.N.Names.works c.args.names.now w) in
     let item_line : ℕ → List ℕ = λ i. entry i (items i) in
     let want_line : ℕ → List ℕ = λ i. marked (reach_text (has_bit reach i)) i (items i) in
-    let before = vec_items c.extend-from-slice-3.new.self in
+    let before = vec_items c.extend_from_slice-3.new.self in
     record {
       reach = reach;
       reached = c.reach-reach.ensures;
       written =
           six_parts (codes "works in order\n") (lines work_line c.args.order.now) (codes "standing at the end\n")
           (lines item_line (members reach)) (codes "wanted\n") (lines want_line (members c.args.scheme.now.wanted))
-          (vec_items c.new-text.result) (vec_items c.extend-from-slice.new.self) (vec_items c.add-works.new.text)
-          (vec_items c.extend-from-slice-2.new.self) (vec_items c.add-items.new.text) before (vec_items c.add-wants.new.text)
-          c.new-text.ensures.items c.in-ok-extend-from-slice.ensures.items c.in-ok-add-works.ensures
-          c.in-ok-extend-from-slice-2.ensures.items c.in-ok-add-items.ensures
-          c.in-ok-extend-from-slice-3.ensures.items
-          (c.in-ok-add-wants.ensures ∙ ap (λ (s : Set). before ++ lines want_line (members s)) c.wanted.ensures);
+          (vec_items c.new-text.result) (vec_items c.extend_from_slice.new.self) (vec_items c.add_works.new.text)
+          (vec_items c.extend_from_slice-2.new.self) (vec_items c.add_items.new.text) before (vec_items c.add_wants.new.text)
+          c.new-text.ensures.items c.in_ok-extend_from_slice.ensures.items c.in_ok-add_works.ensures
+          c.in_ok-extend_from_slice-2.ensures.items c.in_ok-add_items.ensures
+          c.in_ok-extend_from_slice-3.ensures.items
+          (c.in_ok-add_wants.ensures ∙ ap (λ (s : Set). before ++ lines want_line (members s)) c.wanted.ensures);
     }

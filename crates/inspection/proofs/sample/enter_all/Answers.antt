@@ -11,8 +11,8 @@ loop-needs-init c = holds_none (task_of c.args.scheme.now)
 pub loop-needs-preserved : goal.loop-needs-preserved
 loop-needs-preserved c =
     holds_more (task_of c.args.scheme.now) (task_of c.loop-needs.scheme) (task_of c.enter.new.self) c.args.works.now
-    c.loop-needs.needs-index (record { needs = c.from-bits.result; gives = c.from-bits-in-loop-needs.result }) c.loop-needs-test.true
-    (λ i. record { needs = set_of (c.from-bits.ensures i); gives = set_of (c.from-bits-in-loop-needs.ensures i) }) c.loop-needs.invariant c.in-ok-enter.ensures.3
+    c.loop-needs.needs-index (record { needs = c.from_bits.result; gives = c.from_bits-in-loop-needs.result }) c.loop-needs-test.true
+    (λ i. record { needs = set_of (c.from_bits.ensures i); gives = set_of (c.from_bits-in-loop-needs.ensures i) }) c.loop-needs.invariant c.in_ok-enter.ensures.3
 
 pub returns : goal.returns
 returns c =

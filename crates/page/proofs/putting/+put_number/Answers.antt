@@ -8,9 +8,9 @@ pub returns-then-number-lt10 : goal.returns-then-number-lt10
 returns-then-number-lt10 t c =
     let n = c.args.number in
     let small : n % 10 ≡ n = omega arith in
-    puts_as (ap (λ d. (48 + d) ∷ []) small ∙ sym (decimal_digit n c.if-number-lt10.true)) c.put-bytes.ensures
+    puts_as (ap (λ d. (48 + d) ∷ []) small ∙ sym (decimal_digit n c.if-number-lt10.true)) c.put_bytes.ensures
 
 pub returns : goal.returns
 returns t c =
     puts_as (sym (decimal_step c.args.number c.if-number-lt10.false (omega arith)))
-    (puts_more (omega arith) c.put-number-next.ensures c.put-bytes-2.ensures)
+    (puts_more (omega arith) c.put_number-next.ensures c.put_bytes-2.ensures)

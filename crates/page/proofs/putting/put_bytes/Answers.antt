@@ -9,13 +9,13 @@ returns-then-end-page c =
     let at = c.args.at in
     let bytes = c.args.bytes.now in
     let n = length bytes in
-    let end = c.saturating-add-end.result in
+    let end = c.saturating_add-end.result in
     let k : n ≡ end - at = omega arith in
     record {
-      count = c.saturating-add-end.ensures;
+      count = c.saturating_add-end.ensures;
       written = λ room. record {
         same =
-            put_mid-paste at (end - at) page c.copy-from-slice.new.self bytes n c.copy-from-slice.ensures.after k refl
+            put_mid-paste at (end - at) page c.copy_from_slice.new.self bytes n c.copy_from_slice.ensures.after k refl
             ∙ append_assoc (take at page) (take n bytes) (drop (at + n) page)
             ∙ ap (λ l. take at page ++ (l ++ drop (at + n) page)) (take_all n bytes (omega arith));
         end = refl;

@@ -48,7 +48,7 @@ loop-place-preserved c =
     let Here : List ℕ → Type 0 = Front k c.args.bars paper i held in
     front_more k c.args.bars paper (subst Here (drop_more paper i 0 c.loop-place-test.true) c.loop-place.invariant)
     (all_at Low paper i 0 c.loop-place-test.true c.requires) c.if-contains.ensures
-    (none_lacked _ held c.minus.result c.minus.ensures c.in-default.ensures) c.union-held.ensures
+    (none_lacked _ held c.minus.result c.minus.ensures c.in_default.ensures) c.union-held.ensures
 
 pub returns-in-Some-lowest : goal.returns-in-Some-lowest
 returns-in-Some-lowest c =
@@ -70,4 +70,4 @@ returns c =
     let held = c.loop-place.held in
     let Here : List ℕ → Type 0 = Front k c.args.bars paper i held in
     front_plan k c.args.bars paper (subst Here (drop_all i paper c.loop-place-test.false) c.loop-place.invariant)
-    (none_lacked c.args.wanted held c.minus-2.result c.minus-2.ensures c.in-default-lowest.ensures)
+    (none_lacked c.args.wanted held c.minus-2.result c.minus-2.ensures c.in_default-lowest.ensures)

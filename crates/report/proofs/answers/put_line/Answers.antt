@@ -4,8 +4,8 @@ use Rattle.report.proofs.answers.put_line.Goals as goal
 
 pub returns : goal.returns
 returns c =
-    puts_more (omega arith) c.put-number-next.ensures
-    (puts_more (omega arith) c.put-bytes-next.ensures
-    (puts_more (omega arith) c.put-number-next-2.ensures
-    (puts_more (omega arith) c.put-bytes-next-2.ensures
-    (puts_more (omega arith) c.put-bytes-next-3.ensures c.put-bytes.ensures))))
+    puts_more (omega arith) c.put_number-next.ensures
+    (puts_more (omega arith) c.put_bytes-next.ensures
+    (puts_more (omega arith) c.put_number-next-2.ensures
+    (puts_more (omega arith) c.put_bytes-next-2.ensures
+    (puts_more (omega arith) c.put_bytes-next-3.ensures c.put_bytes.ensures))))

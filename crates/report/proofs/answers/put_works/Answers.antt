@@ -17,16 +17,16 @@ loop-number-preserved c =
     let order = c.args.order.now in
     let i = c.loop-number.number-index in
     let w = get_or order i 0 in
-    let row = c.row-of-row.result in
+    let row = c.row_of-row.result in
     let print : ℕ → List ℕ = row_line bytes c.args.rows.now in
-    let printed : line w row.pounds c.in-text.result.now ≡ print w =
-    ap (line w row.pounds) c.in-text.ensures
-    ∙ ap (λ (r : WorkRow). line w r.pounds (bytes_at bytes r.name)) c.row-of-row.ensures
+    let printed : line w row.pounds c.in_text.result.now ≡ print w =
+    ap (line w row.pounds) c.in_text.ensures
+    ∙ ap (λ (r : WorkRow). line w r.pounds (bytes_at bytes r.name)) c.row_of-row.ensures
     in
     let more : flat_map print (take i order) ++ print w ≡ flat_map print (take (i + 1) order) =
     flat_map_more print [] (take i order) w ∙ sym (ap (flat_map print) (take_more order i 0 c.loop-number-test.true))
     in
-    puts_as more (puts_more (omega arith) c.loop-number.invariant (puts_as printed c.put-line-next.ensures))
+    puts_as more (puts_more (omega arith) c.loop-number.invariant (puts_as printed c.put_line-next.ensures))
 
 pub returns : goal.returns
 returns c =

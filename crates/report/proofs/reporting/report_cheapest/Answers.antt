@@ -9,8 +9,8 @@ use Rattle.report.specs.Lines.{fault_text}
 use Rattle.report.proofs.Alone.{answered_only, refused_only}
 use Rattle.report.proofs.reporting.report_cheapest.Goals as goal
 
-pub report-scheme-requires : goal.report-scheme-requires
-report-scheme-requires g c =
+pub report_scheme-requires : goal.report_scheme-requires
+report_scheme-requires g c =
     let n = c.in-Ok.counts in
     let read = c.in-Ok.ensures.answer in
     let items = take n.items c.read.new.items in
@@ -20,7 +20,7 @@ report-scheme-requires g c =
 pub returns-in-Ok : goal.returns-in-Ok
 returns-in-Ok g c =
     let read = c.in-Ok.ensures in
-    let told = c.report-scheme.ensures in
+    let told = c.report_scheme.ensures in
     let filled : Counts → Contents = λ n.
     contents (task_of (scheme_of c.read.new.self)) (take n.works c.read.new.works) (take n.items c.read.new.items) c.args.bytes.now
     in

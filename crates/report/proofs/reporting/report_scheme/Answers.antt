@@ -12,8 +12,8 @@ use Rattle.report.specs.Rows.{row_line}
 use Rattle.report.proofs.Telling.{printed, rows_few, tells}
 use Rattle.report.proofs.reporting.report_scheme.Goals as goal
 
-pub list-pounds-requires : goal.list-pounds-requires
-list-pounds-requires g c =
+pub list_pounds-requires : goal.list_pounds-requires
+list_pounds-requires g c =
     rows_few c.args.bytes.now (task_of (scheme_of c.args.planner.now)) c.args.rows.now c.requires.0.0 c.requires.0.1
 
 pub returns-in-Ok : goal.returns-in-Ok
@@ -24,19 +24,19 @@ returns-in-Ok g c =
     let kept = g.C.Chooser.kept (chooser_of c.args.planner.now) in
     let after = task_of (scheme_of c.ask.new.self) in
     let to = g.C.Chooser.kept (chooser_of c.ask.new.self) in
-    let prices = take (length rows - 0) c.list-pounds.new.pounds in
-    let listed = ap (λ n. take n c.list-pounds.new.pounds) (sub-zero (length rows)) ∙ c.list-pounds.ensures in
+    let prices = take (length rows - 0) c.list_pounds.new.pounds in
+    let listed = ap (λ n. take n c.list_pounds.new.pounds) (sub-zero (length rows)) ∙ c.list_pounds.ensures in
     let order = c.ask.new.order in
     let a = c.in-Ok.answer in
     let Put : Set → Type 0 = λ bars. Asks pounds_scale g.C.Chooser.room k kept prices bars _ (Ok a) order after to in
     let Shown : ℕ → Type 0 = λ n.
-    Published (flat_map (row_line bytes rows) (take n order) ++ total_line a.total) c.args.page.now c.publish-lines.result c.publish-lines.new.page
+    Published (flat_map (row_line bytes rows) (take n order) ++ total_line a.total) c.args.page.now c.publish_lines.result c.publish_lines.new.page
     in
     record {
       text = printed bytes k rows c.requires.0.0 c.requires.0.1 (Ok a) order;
       answered = tells bytes k rows c.requires.0.0 c.requires.0.1 prices listed g.C.Chooser.room kept _ (Ok a) order after to c.requires.1 refl
           (subst Put c.empty.ensures c.in-Ok.ensures);
-      published = subst Shown (sub-zero a.length) c.publish-lines.ensures;
+      published = subst Shown (sub-zero a.length) c.publish_lines.ensures;
     }
 
 pub returns-in-Err : goal.returns-in-Err
@@ -47,8 +47,8 @@ returns-in-Err g c =
     let kept = g.C.Chooser.kept (chooser_of c.args.planner.now) in
     let after = task_of (scheme_of c.ask.new.self) in
     let to = g.C.Chooser.kept (chooser_of c.ask.new.self) in
-    let prices = take (length rows - 0) c.list-pounds.new.pounds in
-    let listed = ap (λ n. take n c.list-pounds.new.pounds) (sub-zero (length rows)) ∙ c.list-pounds.ensures in
+    let prices = take (length rows - 0) c.list_pounds.new.pounds in
+    let listed = ap (λ n. take n c.list_pounds.new.pounds) (sub-zero (length rows)) ∙ c.list_pounds.ensures in
     let order = c.ask.new.order in
     let e = c.in-Err.refusal in
     let Put : Set → Type 0 = λ bars. Asks pounds_scale g.C.Chooser.room k kept prices bars _ (Err e) order after to in

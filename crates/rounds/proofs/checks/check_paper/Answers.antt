@@ -6,17 +6,17 @@ use Rattle.rounds.proofs.Exits.{refusal_passed}
 use Rattle.rounds.proofs.Legible.{reads_numbers}
 use Rattle.rounds.proofs.checks.check_paper.Goals as goal
 
-pub returns-in-err-check-held : goal.returns-in-err-check-held
-returns-in-err-check-held g c =
-    let not-held = c.in-err-check-held.ensures in
+pub returns-in_err-check_held : goal.returns-in_err-check_held
+returns-in_err-check_held g c =
+    let not-held = c.in_err-check_held.ensures in
     let Answers : Result (Unit {0}) Refusal → Type 0 =
     Reads g.T.Tariff.scale (task_of c.args.scheme.now) c.args.prices.now c.args.bars c.args.paper.now
     in
-    refusal_passed Answers c.from-residual-in-err-check-held.result c.in-err-check-held.field-0.0 c.from-residual-in-err-check-held.ensures.1
-    (inr (inr (inr (inl (not-held.0, c.in-ok-check-prices.ensures, omega (arith, c.if-paper-gt64.false), not-held.1)))))
+    refusal_passed Answers c.from_residual-in_err-check_held.result c.in_err-check_held.field-0.0 c.from_residual-in_err-check_held.ensures.1
+    (inr (inr (inr (inl (not-held.0, c.in_ok-check_prices.ensures, omega (arith, c.if-paper-gt64.false), not-held.1)))))
 
 pub returns : goal.returns
 returns g c =
     reads_numbers g.T.Tariff.scale (task_of c.args.scheme.now) c.args.prices.now c.args.bars c.args.paper.now
-    c.check-numbers.result c.in-ok-check-prices.ensures (omega (arith, c.if-paper-gt64.false))
-    c.in-ok-check-held.ensures c.check-numbers.ensures
+    c.check_numbers.result c.in_ok-check_prices.ensures (omega (arith, c.if-paper-gt64.false))
+    c.in_ok-check_held.ensures c.check_numbers.ensures

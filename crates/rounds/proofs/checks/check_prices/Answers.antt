@@ -3,7 +3,7 @@ use Rattle.std.proofs.lemmas.List.{take_more, take_all}
 use Rattle.tariff.specs.Amounts.{All}
 use Rattle.tariff.proofs.Sums.{all_append, all_at}
 use Rattle.rounds.proofs.checks.check_prices.Goals as goal
-use Rattle.rounds.proofs.checks.check_prices.Goals.{then-not-is-price, else-not-is-price}
+use Rattle.rounds.proofs.checks.check_prices.Goals.{then-not-is_price, else-not-is_price}
 
 pub loop-place-preserved : goal.loop-place-preserved
 loop-place-preserved g c =
@@ -11,20 +11,20 @@ loop-place-preserved g c =
     let i = c.loop-place.place in
     let price = c.index-prices-place.result in
     let Within = g.T.Tariff.scale.within in
-    elim c.if-not-is-price.branch [
-      | then-not-is-price w ↦ (
+    elim c.if-not-is_price.branch [
+      | then-not-is_price w ↦ (
         refl,
         λ e. let clash : ◌≡◌ {A = ℕ} 0 1 = cc in absurd (omega arith),
         λ _ all.
             let within = subst Within (sym c.index-prices-place.is) (all_at Within prices i price c.loop-place-test.true all) in
-            let never : true ≡ false = sym (c.is-price.ensures.1 within) ∙ w.if-not-is-price.true in
+            let never : true ≡ false = sym (c.is_price.ensures.1 within) ∙ w.if-not-is_price.true in
             let clash : ◌≡◌ {A = ℕ} 0 1 = cc in
             omega arith,
       )
-      | else-not-is-price w ↦ (
+      | else-not-is_price w ↦ (
         refl,
         λ e.
-            let within = c.is-price.ensures.0 w.if-not-is-price.false in
+            let within = c.is_price.ensures.0 w.if-not-is_price.false in
             rw (take_more prices i price c.loop-place-test.true)
             (all_append Within (take i prices) (get_or prices i price ∷ []) (c.loop-place.invariant.1 (sym w.within-is ∙ e))
             (subst Within c.index-prices-place.is within, tt)),

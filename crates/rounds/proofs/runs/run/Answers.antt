@@ -13,24 +13,24 @@ round-init g c =
     (g.C.Chooser.kept c.args.chooser.now) (g.met.C.Chooser.fits c.args.chooser.now)
 
 -- over landmarks a draw does not come out empty
-pub returns-in-default : goal.returns-in-default
-returns-in-default g c =
+pub returns-in_default : goal.returns-in_default
+returns-in_default g c =
     let front = c.round.invariant in
     record {
       ruled = λ ready.
           absurd
           (draws_some g.T.Tariff.scale (task_of c.args.scheme.now) c.args.prices.now c.args.bars ready.fair
-          ready.enough (g.C.Chooser.kept c.round.chooser) (front.marks ready.marks) c.in-default.ensures);
+          ready.enough (g.C.Chooser.kept c.round.chooser) (front.marks ready.marks) c.in_default.ensures);
       few = omega (arith, front.count, front.fits);
     }
 
-pub returns-in-default-landmark : goal.returns-in-default-landmark
-returns-in-default-landmark g c =
+pub returns-in_default-landmark : goal.returns-in_default-landmark
+returns-in_default-landmark g c =
     let front = c.round.invariant in
     record {
       ruled = λ _.
           onward_reached g.T.Tariff.scale g.C.Chooser.room (task_of c.args.scheme.now) c.args.prices.now c.args.bars
-          front c.in-Some.ensures c.in-default-landmark.ensures;
+          front c.in-Some.ensures c.in_default-landmark.ensures;
       few = omega (arith, front.count, front.fits);
     }
 
@@ -53,7 +53,7 @@ returns-in-Err g c =
 
 pub round-smaller : goal.round-smaller
 round-smaller g c =
-    let added = c.in-default-add.ensures in
+    let added = c.in_default-add.ensures in
     let kept = g.C.Chooser.kept c.round.chooser in
     omega (arith, added.0, ap length added.1, length-append kept (c.in-Some-landmark.landmark ∷ []))
 
@@ -65,7 +65,7 @@ round-preserved g c =
     let prices = c.args.prices.now in
     let start = g.C.Chooser.kept c.args.chooser.now in
     let drawn = c.in-Some-landmark.ensures in
-    let added = c.in-default-add.ensures in
+    let added = c.in_default-add.ensures in
     let After : List Set → Type 0 = Onward t room k prices c.args.bars start (c.round.rounds + 1) in
     subst After (sym added.1)
     (onward_more t room k prices c.args.bars c.round.invariant c.in-Some.ensures drawn.0 added.0 drawn.1)

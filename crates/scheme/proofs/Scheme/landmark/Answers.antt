@@ -14,8 +14,8 @@ returns c =
       reach = c.reach.result;
       is_grown = c.grown-grown.ensures;
       is_reach = c.reach.ensures;
-      leaving = subst Left c.as-slice.ensures.value c.leaving.ensures;
+      leaving = subst Left c.as_slice.ensures.value c.leaving.ensures;
     }
     in
-    let short = c.if-is-sufficient.ensures in
+    let short = c.if-is_sufficient.ensures in
     (short, drawn, drawn_landmark drawn short, λ shared. drawn_apart drawn shared.0 shared.1 shared.2)

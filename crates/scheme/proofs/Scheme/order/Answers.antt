@@ -10,5 +10,5 @@ returns c =
     let Fills : List Work → Type 0 = λ works.
     Filled works c.args.chosen c.args.self.now.standing c.args.places.now c.place.result c.place.new.places
     in
-    let filled = subst Fills c.as-slice-works.ensures.value c.place.ensures in
+    let filled = subst Fills c.as_slice-works.ensures.value c.place.ensures in
     (omega arith, filled, serves (task_of c.args.self.now) c.args.chosen _ filled.placed)

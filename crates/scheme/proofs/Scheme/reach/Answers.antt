@@ -15,7 +15,7 @@ pub returns-then-eq : goal.returns-then-eq
 returns-then-eq c =
     let same : c.pass-next.result ≡ c.grow.held = ap (λ (n : ℕ). record { bits = n }) (c.if-eq.ensures.0 refl) in
     let Reached : List Work → Type 0 = λ works. Reach works (Has c.args.chosen) c.args.self.now.standing c.grow.held in
-    subst Reached c.as-slice-works.ensures.value (towards_reach c.grow.invariant c.pass-next.ensures same)
+    subst Reached c.as_slice-works.ensures.value (towards_reach c.grow.invariant c.pass-next.ensures same)
 
 pub grow-smaller : goal.grow-smaller
 grow-smaller c =

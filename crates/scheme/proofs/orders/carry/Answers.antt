@@ -27,7 +27,7 @@ loop-place-preserved c =
     let Next : List ℕ → Type 0 = λ order. Carried c.args.works.now c.args.standing order c.union-held.result in
     subst Next (sym (take_more c.args.order.now c.loop-place.place 0 c.loop-place-test.true))
     (carried_append c.loop-place.invariant (onward c.if-w-works.false
-    (λ i y. ⊎_elim (λ z. z) (λ not. absurd (c.in-default.ensures i ((c.minus.ensures i).1 (y, not)))) (has_or_not c.loop-place.held i))
+    (λ i y. ⊎_elim (λ z. z) (λ not. absurd (c.in_default.ensures i ((c.minus.ensures i).1 (y, not)))) (has_or_not c.loop-place.held i))
     c.union-held.ensures finished))
 
 pub returns : goal.returns

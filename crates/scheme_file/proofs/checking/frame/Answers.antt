@@ -8,12 +8,12 @@ use Rattle.scheme_file.proofs.checking.frame.Goals as goal
 pub returns : goal.returns
 returns c =
     let rest = c.args.rest.now in
-    let s = c.from-le-bytes-size.result in
+    let s = c.from_le_bytes-size.result in
     let long : s + 2 ≤ length rest = search rules in
-    let sized : size rest ≡ s = value_two rest (omega arith) ∙ sym c.from-le-bytes-size.ensures in
+    let sized : size rest ≡ s = value_two rest (omega arith) ∙ sym c.from_le_bytes-size.ensures in
     let two : 2 ≤ s = search rules in
-    let coded : code rest ≡ c.from-le-bytes.result =
+    let coded : code rest ≡ c.from_le_bytes.result =
     value_two (drop 2 rest) (simp length-drop (omega arith)) ∙ search (rules, places)
     in
-    let known : named (code rest) ≡ Some c.in-ok-kind.kind = ap named coded ∙ search rules in
+    let known : named (code rest) ≡ Some c.in_ok-kind.kind = ap named coded ∙ search rules in
     (((omega arith, omega arith), ((omega arith, ap is_some known), tt)), (known, rw sized (body_part rest s long)))

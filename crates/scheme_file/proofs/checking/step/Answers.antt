@@ -6,10 +6,10 @@ use Rattle.scheme_file.proofs.checking.step.Goals as goal
 pub returns : goal.returns
 returns c =
     let rest = c.args.rest.now in
-    let kind = c.in-ok-kind.kind in
-    let body = c.in-ok-kind.body.now in
-    let frame = c.in-ok-kind.ensures in
-    let admitted = c.in-ok-next.ensures in
+    let kind = c.in_ok-kind.kind in
+    let body = c.in_ok-kind.body.now in
+    let frame = c.in_ok-kind.ensures in
+    let admitted = c.in_ok-next.ensures in
     let P : List ℕ → Type 0 = λ b. rest ≡ encode (record { kind = kind; body = b }) ++ drop (4 + length b) rest in
     let front : P body =
     subst P (sym frame.1.1) (framed rest kind (λ i. omega (arith, c.type-inv.rest i)) frame.0 frame.1.0)

@@ -4,18 +4,18 @@ use Rattle.std.proofs.lemmas.List.{take_rest}
 use Rattle.scheme_file.specs.declared.causes.Cause.TheVariants.{Refused}
 use Rattle.scheme_file.proofs.checking.work.Goals as goal
 
-pub returns-in-err-readable : goal.returns-in-err-readable
-returns-in-err-readable c =
-    let p = err_from_is_err_and c.from-residual.result c.from-residual.ensures.1 in
-    let failed = c.in-err-readable.ensures in
+pub returns-in_err-readable : goal.returns-in_err-readable
+returns-in_err-readable c =
+    let p = err_from_is_err_and c.from_residual.result c.from_residual.ensures.1 in
+    let failed = c.in_err-readable.ensures in
     rw (p.1, p.2) (inr (tt, inl (λ text. failed.1 (rw take_rest text), failed.0)))
 
-pub returns-in-err-enterable : goal.returns-in-err-enterable
-returns-in-err-enterable c =
-    let p = err_from_is_err_and c.from-residual-in-err-enterable.result c.from-residual-in-err-enterable.ensures.1 in
-    let text = rw take_rest at c.in-ok-readable.ensures in
+pub returns-in_err-enterable : goal.returns-in_err-enterable
+returns-in_err-enterable c =
+    let p = err_from_is_err_and c.from_residual-in_err-enterable.result c.from_residual-in_err-enterable.ensures.1 in
+    let text = rw take_rest at c.in_ok-readable.ensures in
     let value = c.long.ensures.value in
-    let failed = rw value at c.in-err-enterable.ensures in
+    let failed = rw value at c.in_err-enterable.ensures in
     rw (p.1, p.2)
     (inr (
       tt,
@@ -31,6 +31,6 @@ returns-in-err-enterable c =
 
 pub returns : goal.returns
 returns c =
-    let text = rw take_rest at c.in-ok-readable.ensures in
-    let can = rw c.long.ensures.value at c.in-ok-enterable.ensures in
+    let text = rw take_rest at c.in_ok-readable.ensures in
+    let can = rw c.long.ensures.value at c.in_ok-enterable.ensures in
     ((tt, (text, (tt, (can.0, (can.1, tt))))), refl)

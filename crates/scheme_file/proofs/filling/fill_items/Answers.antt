@@ -7,22 +7,22 @@ use Rattle.scheme_file.specs.Rules.{after}
 use Rattle.scheme_file.proofs.Fills.{item_at, item_step, later_more, room_here, size_here}
 use Rattle.scheme_file.proofs.filling.fill_items.Goals as goal
 
-pub item-row-row-requires : goal.item-row-row-requires
-item-row-row-requires c =
+pub item_row-row-requires : goal.item_row-row-requires
+item_row-row-requires c =
     let t = c.loop-i.invariant.0 c.requires.1.0 c.requires.1.1 in
     let n = item_at c.loop-i.rows c.loop-i.i c.loop-i.at c.args.count c.requires.1.0 (omega (arith, c.requires.0)) c.loop-i-test.true t in
     (omega (arith, room_here n, n.kept.0), omega (arith, size_here n, n.kept.0), omega (arith, size_here n, room_here n))
 
-pub overflow-add-at : goal.overflow-add-at
-overflow-add-at c =
+pub overflow_add-at : goal.overflow_add-at
+overflow_add-at c =
     let t = c.loop-i.invariant.0 c.requires.1.0 c.requires.1.1 in
     let n = item_at c.loop-i.rows c.loop-i.i c.loop-i.at c.args.count c.requires.1.0 (omega (arith, c.requires.0)) c.loop-i-test.true t in
-    omega (arith, size_here n, room_here n, c.item-row-row.ensures.len, c.item-row-row.ensures.start, c.well-formed)
+    omega (arith, size_here n, room_here n, c.item_row-row.ensures.len, c.item_row-row.ensures.start, c.well-formed)
 
 pub loop-i-preserved : goal.loop-i-preserved
 loop-i-preserved c =
-    let made = c.item-row-row.ensures in
-    let row = c.item-row-row.result in
+    let made = c.item_row-row.ensures in
+    let row = c.item_row-row.result in
     let bytes = c.args.bytes.now in
     let i = c.loop-i.i in
     let at = c.loop-i.at in

@@ -10,25 +10,25 @@ use Rattle.scheme_file.specs.Rules.{after}
 use Rattle.scheme_file.proofs.Fills.{entered, later_more, room_here, size_here, work_at, work_step}
 use Rattle.scheme_file.proofs.filling.fill_works.Goals as goal
 
-pub work-at-requires : goal.work-at-requires
-work-at-requires c =
+pub work_at-requires : goal.work_at-requires
+work_at-requires c =
     let n = work_at c.loop-i.rows c.args.from c.loop-i.i c.loop-i.at c.args.count (omega (arith, c.requires.0)) c.loop-i-test.true c.loop-i.invariant.0 in
     omega (arith, room_here n, n.kept.0)
 
-pub work-row-row-requires : goal.work-row-row-requires
-work-row-row-requires c =
+pub work_row-row-requires : goal.work_row-row-requires
+work_row-row-requires c =
     let n = work_at c.loop-i.rows c.args.from c.loop-i.i c.loop-i.at c.args.count (omega (arith, c.requires.0)) c.loop-i-test.true c.loop-i.invariant.0 in
     (omega (arith, room_here n, n.kept.0), omega (arith, size_here n, n.kept.0))
 
-pub overflow-add-at : goal.overflow-add-at
-overflow-add-at c =
+pub overflow_add-at : goal.overflow_add-at
+overflow_add-at c =
     let n = work_at c.loop-i.rows c.args.from c.loop-i.i c.loop-i.at c.args.count (omega (arith, c.requires.0)) c.loop-i-test.true c.loop-i.invariant.0 in
-    omega (arith, size_here n, room_here n, c.work-row-row.ensures.len, c.work-row-row.ensures.start, c.well-formed)
+    omega (arith, size_here n, room_here n, c.work_row-row.ensures.len, c.work_row-row.ensures.start, c.well-formed)
 
 pub loop-i-preserved : goal.loop-i-preserved
 loop-i-preserved c =
-    let made = c.work-row-row.ensures in
-    let row = c.work-row-row.result in
+    let made = c.work_row-row.ensures in
+    let row = c.work_row-row.result in
     let w = c.work_at.result in
     let bytes = c.args.bytes.now in
     let i = c.loop-i.i in

@@ -8,7 +8,7 @@ pub returns : goal.returns
 returns c =
     let bytes = c.args.bytes.now in
     let at = c.args.at in
-    let e : c.from-le-bytes.result ≡ value (take 2 (drop at bytes)) = c.from-le-bytes.ensures ∙ sym (value_word bytes at c.requires) in
+    let e : c.from_le_bytes.result ≡ value (take 2 (drop at bytes)) = c.from_le_bytes.ensures ∙ sym (value_word bytes at c.requires) in
     record {
       value = e;
       bytes =

@@ -12,7 +12,7 @@ returns c =
     let k : n ≡ (at + n) - at = omega arith in
     record {
       same =
-          put_mid-paste at ((at + n) - at) out c.copy-from-slice.new.self bytes n c.copy-from-slice.ensures.after k refl
+          put_mid-paste at ((at + n) - at) out c.copy_from_slice.new.self bytes n c.copy_from_slice.ensures.after k refl
           ∙ append_assoc (take at out) (take n bytes) (drop (at + n) out)
           ∙ ap (λ l. take at out ++ (l ++ drop (at + n) out)) (take_all n bytes (omega arith));
       end = refl;

@@ -29,8 +29,8 @@ at_row items text i lt =
 pub loop-row-init : goal.loop-row-init
 loop-row-init c = wrote_none c.args.out.now c.args.from (omega (arith, c.requires.1))
 
-pub put-item-at-requires : goal.put-item-at-requires
-put-item-at-requires c =
+pub put_item-at-requires : goal.put_item-at-requires
+put_item-at-requires c =
     let items = c.args.items.now in
     let text = c.args.text.now in
     let i = c.loop-row.row-index in
@@ -49,7 +49,7 @@ loop-row-preserved c =
     let text = c.args.text.now in
     let i = c.loop-row.row-index in
     let r = at_row items text i c.loop-row-test.true in
-    record_step (all items text) i (item_record (item_in text none)) r.0 c.loop-row.invariant (wrote_as (ap encode r.1) c.put-item-at.ensures)
+    record_step (all items text) i (item_record (item_in text none)) r.0 c.loop-row.invariant (wrote_as (ap encode r.1) c.put_item-at.ensures)
 
 pub returns : goal.returns
 returns c =

@@ -33,8 +33,8 @@ at_row works rows text i level lt =
 pub loop-i-init : goal.loop-i-init
 loop-i-init c = wrote_none c.args.out.now c.args.from (omega (arith, c.requires.1))
 
-pub put-work-at-requires : goal.put-work-at-requires
-put-work-at-requires c =
+pub put_work-at-requires : goal.put_work-at-requires
+put_work-at-requires c =
     let works = c.args.works.now in
     let rows = c.args.rows.now in
     let text = c.args.text.now in
@@ -55,7 +55,7 @@ loop-i-preserved c =
     let text = c.args.text.now in
     let i = c.loop-i.i in
     let r = at_row works rows text i c.requires.0.level c.loop-i-test.true in
-    record_step (all works rows text) i (work_record (entry_in text idle none)) r.0 c.loop-i.invariant (wrote_as (ap encode r.1) c.put-work-at.ensures)
+    record_step (all works rows text) i (work_record (entry_in text idle none)) r.0 c.loop-i.invariant (wrote_as (ap encode r.1) c.put_work-at.ensures)
 
 pub returns : goal.returns
 returns c =

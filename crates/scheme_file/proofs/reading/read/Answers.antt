@@ -5,15 +5,15 @@ use Rattle.scheme_file.proofs.Uniques.{file_faultless, reads_only}
 use Rattle.scheme_file.proofs.Wholes.{reads_bound, whole_itemed, whole_short, whole_some}
 use Rattle.scheme_file.proofs.reading.read.Goals as goal
 
-pub overflow-sub-result : goal.overflow-sub-result
-overflow-sub-result c = (whole_some c.in-ok-end.ensures).0
+pub overflow_sub-result : goal.overflow_sub-result
+overflow_sub-result c = (whole_some c.in_ok-end.ensures).0
 
-pub overflow-sub-result-then-works-counts : goal.overflow-sub-result-then-works-counts
-overflow-sub-result-then-works-counts c = (whole_some c.in-ok-end.ensures).1
+pub overflow_sub-result-then-works-counts : goal.overflow_sub-result-then-works-counts
+overflow_sub-result-then-works-counts c = (whole_some c.in_ok-end.ensures).1
 
 pub returns-then-works-counts : goal.returns-then-works-counts
 returns-then-works-counts c =
-    let whole = c.in-ok-end.ensures in
+    let whole = c.in_ok-end.ensures in
     let some = whole_some whole in
     record {
       answer = (
@@ -29,10 +29,10 @@ returns-then-works-counts c =
       sole = λ g faulty. ap Err (short_alone _ _ _ whole (omega (arith, some.0)) (omega (arith, some.1)) refl g faulty);
     }
 
-pub returns-in-err-end : goal.returns-in-err-end
-returns-in-err-end c =
-    let p = err_from_is_err_and c.from-residual.result c.from-residual.ensures.1 in
-    let amiss = c.in-err-end.ensures in
+pub returns-in_err-end : goal.returns-in_err-end
+returns-in_err-end c =
+    let p = err_from_is_err_and c.from_residual.result c.from_residual.ensures.1 in
+    let amiss = c.in_err-end.ensures in
     rw (p.1, p.2) (record {
       answer = (inl amiss, refl, refl, refl);
       only = λ contents readable same. absurd (file_faultless c.args.bytes.now contents _ readable same amiss);
@@ -41,7 +41,7 @@ returns-in-err-end c =
     })
 
 pub fill-requires : goal.fill-requires
-fill-requires c = (c.if-works-counts.false, c.if-items-counts.false, whole_itemed c.in-ok-end.ensures)
+fill-requires c = (c.if-works-counts.false, c.if-items-counts.false, whole_itemed c.in_ok-end.ensures)
 
 pub returns : goal.returns
 returns c =
@@ -58,5 +58,5 @@ returns c =
       only = reads_only reads;
       short = λ contents readable same. tt;
       sole = λ g faulty.
-          absurd (none_lacks _ _ c.in-ok-end.ensures c.if-works-counts.false c.if-items-counts.false g faulty);
+          absurd (none_lacks _ _ c.in_ok-end.ensures c.if-works-counts.false c.if-items-counts.false g faulty);
     }

@@ -8,14 +8,14 @@ use Rattle.scheme_file.proofs.vetting.items_size.Goals as goal
 abbrev none : ItemRow
 none = record { number = 0; name = record { at = 0; len = 0 } }
 
-pub returns-then-not-item-fits : goal.returns-then-not-item-fits
-returns-then-not-item-fits c =
+pub returns-then-not-item_fits : goal.returns-then-not-item_fits
+returns-then-not-item_fits c =
     let items = c.args.items.now in
     let text = c.args.text.now in (
       refl,
       λ fit.
           let at = items_at items text c.loop-row.row-index none c.loop-row-test.true fit in
-          c.if-not-item-fits.ensures (subst (λ n. ItemFits text n (get_or items c.loop-row.row-index none)) (sym c.loop-row.invariant.1) at),
+          c.if-not-item_fits.ensures (subst (λ n. ItemFits text n (get_or items c.loop-row.row-index none)) (sym c.loop-row.invariant.1) at),
     )
 
 pub loop-row-preserved : goal.loop-row-preserved
@@ -23,7 +23,7 @@ loop-row-preserved c =
     let items = c.args.items.now in
     let i = c.loop-row.row-index in
     let row = get_or items i none in
-    let one = c.if-not-item-fits.ensures in
+    let one = c.if-not-item_fits.ensures in
     let more = items_push (take i items) c.args.text.now c.loop-row.least row c.loop-row.invariant.0 c.loop-row.invariant.1 one in
     let e = take_more items i none c.loop-row-test.true in
     rw e (

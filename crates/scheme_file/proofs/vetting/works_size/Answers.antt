@@ -8,9 +8,9 @@ use Rattle.scheme_file.proofs.vetting.works_size.Goals as goal
 abbrev none : WorkRow
 none = record { pounds = 0; hours = 0; name = record { at = 0; len = 0 } }
 
-pub returns-then-not-work-fits : goal.returns-then-not-work-fits
-returns-then-not-work-fits c =
-    (refl, λ fit. c.if-not-work-fits.ensures (works_at c.args.works.now c.args.rows.now c.args.text.now c.loop-row.row-index none c.loop-row-test.true fit))
+pub returns-then-not-work_fits : goal.returns-then-not-work_fits
+returns-then-not-work_fits c =
+    (refl, λ fit. c.if-not-work_fits.ensures (works_at c.args.works.now c.args.rows.now c.args.text.now c.loop-row.row-index none c.loop-row-test.true fit))
 
 pub loop-row-preserved : goal.loop-row-preserved
 loop-row-preserved c =
@@ -18,7 +18,7 @@ loop-row-preserved c =
     let rows = c.args.rows.now in
     let i = c.loop-row.row-index in
     let row = get_or rows i none in
-    let one = c.if-not-work-fits.ensures in
+    let one = c.if-not-work_fits.ensures in
     let more = works_push (take i works) (take i rows) c.args.text.now (get_or works i idle) row c.loop-row.invariant.0 one in
     let w = take_more works i idle (omega arith) in
     let r = take_more rows i none c.loop-row-test.true in

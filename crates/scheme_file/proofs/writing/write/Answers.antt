@@ -16,8 +16,8 @@ returns-then-out-len c =
     let rows = c.args.works.now in
     let text = c.args.text.now in
     let few : length k.works ≤ 64 = search rules in
-    let works = rw c.works.ensures.value at c.in-ok-works-len.ensures in
-    let items = c.in-ok-items-len.ensures in (
+    let works = rw c.works.ensures.value at c.in_ok-works_len.ensures in
+    let items = c.in_ok-items_len.ensures in (
       inr (
         refl,
         fit_of k rows c.args.items.now text items.0 works.0 few,
@@ -32,15 +32,15 @@ returns c =
     let rows = c.args.works.now in
     let text = c.args.text.now in
     let few : length k.works ≤ 64 = search rules in
-    let works = rw c.works.ensures.value at c.in-ok-works-len.ensures in
-    let items = c.in-ok-items-len.ensures in
+    let works = rw c.works.ensures.value at c.in_ok-works_len.ensures in
+    let items = c.in_ok-items_len.ensures in
     let fit = fit_of k rows c.args.items.now text items.0 works.0 few in
     let all = contents k rows c.args.items.now text in
     let w = wrote_all (wrote_as (file_parts all)
-    (wrote_more c.put-mark-at.ensures (wrote_more c.put-items-at.ensures
-    (wrote_more (wrote_as (ap (λ (l : List Work). bytes_of (map work_record (entries text l rows))) c.works-2.ensures.value) c.put-works-at.ensures)
-    (wrote_more (wrote_as (ap (λ (s : Set). encode (set_record Standing s)) c.standing.ensures) c.put-set-at.ensures)
-    (wrote_more (wrote_as (ap (λ (s : Set). encode (set_record Wanted s)) c.wanted.ensures) c.put-set-at-2.ensures) c.put-mark.ensures))))))
+    (wrote_more c.put_mark-at.ensures (wrote_more c.put_items-at.ensures
+    (wrote_more (wrote_as (ap (λ (l : List Work). bytes_of (map work_record (entries text l rows))) c.works-2.ensures.value) c.put_works-at.ensures)
+    (wrote_more (wrote_as (ap (λ (s : Set). encode (set_record Standing s)) c.standing.ensures) c.put_set-at.ensures)
+    (wrote_more (wrote_as (ap (λ (s : Set). encode (set_record Wanted s)) c.wanted.ensures) c.put_set-at-2.ensures) c.put_mark.ensures))))))
     in
     record {
       fit = fit;

@@ -24,11 +24,11 @@ returns g c works capped of found =
     let sets = c.args.sets.now in
     let n = c.args.node in
     let part = subst (Best works sets) c.in-Some.is found in
-    let bounds = c.lower-bound.ensures works capped of in
+    let bounds = c.lower_bound.ensures works capped of in
     let After : Option Set → Type 0 = λ best. MatchBool c.outdoes.result (Settled t prices sets best n) (Better t prices n.chosen best) in
     subst After (sym c.in-Some.is)
-    (settled_or_better t prices sets n works c.in-Some.set c.number-bound.result c.lower-bound.result c.outdoes.result
-    c.number-bound.ensures bounds
+    (settled_or_better t prices sets n works c.in-Some.set c.number_bound.result c.lower_bound.result c.outdoes.result
+    c.number_bound.ensures bounds
     (c.outdoes.ensures (λ w h. capped w (part.0 w h)) (λ w h. capped w (bounds.within w h)))
     (better t prices sets n c.in-Some.set
     (c.if-precedes.ensures (λ w h. capped w (part.0 w h)) (λ w h. capped w (of.chosen w h)))))

@@ -9,4 +9,4 @@ shared a b both true m h = λ x. h x.0 ((m x.0).1 (x.1, x.2))
 shared a b both false m h = let p = (m h.0).0 h.1 in (h.0, p.0, p.1)
 
 pub returns : goal.returns
-returns c = shared c.args.self c.args.other _ _ c.intersection.ensures c.is-empty.ensures.members
+returns c = shared c.args.self c.args.other _ _ c.intersection.ensures c.is_empty.ensures.members

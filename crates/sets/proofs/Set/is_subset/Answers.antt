@@ -10,4 +10,4 @@ nothing_over a b over true m h = λ k x. ⊎_elim (λ y. y) (λ n. absurd (h k (
 nothing_over a b over false m h = let p = (m h.0).0 h.1 in (h.0, p.0, p.1)
 
 pub returns : goal.returns
-returns c = nothing_over c.args.self c.args.other _ _ c.minus.ensures c.is-empty.ensures.members
+returns c = nothing_over c.args.self c.args.other _ _ c.minus.ensures c.is_empty.ensures.members

@@ -5,8 +5,8 @@ use Rattle.sets.specs.Member.{Has}
 use Rattle.sets.proofs.Laws.{listed}
 use Rattle.sets.proofs.Set.len.Goals as goal
 
-pub overflow-cast-result : goal.overflow-cast-result
-overflow-cast-result c = omega (arith, ones-le 64 c.args.self.bits (omega arith))
+pub overflow_cast-result : goal.overflow_cast-result
+overflow_cast-result c = omega (arith, ones-le 64 c.args.self.bits (omega arith))
 
 pub returns : goal.returns
 returns c = listed 64 c.args.self (omega arith)

@@ -8,8 +8,8 @@ use Rattle.tabler.proofs.entry.entry.Goals as goal
 
 pub pick-requires : goal.pick-requires
 pick-requires g c =
-    let subset = c.from-bits-subset.result in
-    let number : subset.bits ≡ c.args.m = c.from-bits-subset.ensures in
+    let subset = c.from_bits-subset.result in
+    let number : subset.bits ≡ c.args.m = c.from_bits-subset.ensures in
     let same : subset ≡ record { bits = c.args.m } = ap (λ (n : ℕ). record { bits = n }) number in
     let member = c.in-Some.ensures.0.member in
     let few : subset.bits < 2 ^ length c.args.sets.now = omega (arith, c.requires.few) in record {
@@ -23,7 +23,7 @@ pick-requires g c =
 
 pub returns-in-None : goal.returns-in-None
 returns-in-None g c =
-    let number : c.from-bits-subset.result.bits ≡ c.args.m = c.from-bits-subset.ensures in
-    let same : c.from-bits-subset.result ≡ record { bits = c.args.m } = ap (λ (n : ℕ). record { bits = n }) number in
+    let number : c.from_bits-subset.result.bits ≡ c.args.m = c.from_bits-subset.ensures in
+    let same : c.from_bits-subset.result ≡ record { bits = c.args.m } = ap (λ (n : ℕ). record { bits = n }) number in
     best_none g.T.Tariff.scale c.args.prices.now c.args.free c.args.sets.now (record { bits = c.args.m })
     c.empty.result (λ k y. c.in-None.ensures k (subst (λ (x : Set). Has x k) (sym same) y)) c.empty.ensures

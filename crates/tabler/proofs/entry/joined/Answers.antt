@@ -9,8 +9,8 @@ bounds-table-bits c =
     in
     omega arith
 
-pub offset-bounds-table-bits : goal.offset-bounds-table-bits
-offset-bounds-table-bits c =
+pub offset_bounds-table-bits : goal.offset_bounds-table-bits
+offset_bounds-table-bits c =
     let lower =
     unmet_lower c.args.sets.now c.args.subset c.unmet-left.result c.args.w c.requires.some c.unmet-left.ensures
     in

@@ -17,15 +17,15 @@ gone_through i j works free one e f m =
 pub pick-init : goal.pick-init
 pick-init g c =
     tried_none g.T.Tariff.scale c.args.prices.now c.args.free c.args.sets.now c.args.subset
-    c.into-iter-w-iterator.result.rest c.requires.met
+    c.into_iter-w-iterator.result.rest c.requires.met
 
 -- the work of a turn
 in_both :
     (g : given.Over) (c : In-Some g) →
     Has c.args.free c.in-Some.w × Has (get_or c.args.sets.now c.args.place none) c.in-Some.w
 in_both g c =
-    (gone_through c.into-iter-w-iterator.result c.iter-w-items.result c.intersection-works.result c.args.free
-    (get_or c.args.sets.now c.args.place none) c.into-iter-w-iterator.ensures.into-iter-gives c.iter-w-items.ensures
+    (gone_through c.into_iter-w-iterator.result c.iter-w-items.result c.intersection-works.result c.args.free
+    (get_or c.args.sets.now c.args.place none) c.into_iter-w-iterator.ensures.into_iter-gives c.iter-w-items.ensures
     c.intersection-works.ensures c.in-Some.w).0
     (c.pick.invariant.within c.in-Some.w c.in-Some.ensures.steps.0.member)
 
@@ -60,15 +60,15 @@ pick-preserved g c =
     let here = in_both g (goal.at.pick-preserved g c).In-Some in
     tried_more g.T.Tariff.scale c.args.prices.now c.args.free sets c.args.subset c.args.table.now c.requires.filled
     w here.0 (c.args.place, c.requires.member, here.1) c.joined-other.result
-    c.joined-other.ensures c.into-iter-w-iterator.result.rest c.pick.w-iterator.rest c.next.new.self.rest
+    c.joined-other.ensures c.into_iter-w-iterator.result.rest c.pick.w-iterator.rest c.next.new.self.rest
     c.pick.best c.earlier-best.result c.pick.invariant step.2 c.earlier-best.ensures
 
 pub returns : goal.returns
 returns g c =
     let one = get_or c.args.sets.now c.args.place none in
     tried_all g.T.Tariff.scale c.args.prices.now c.args.free c.args.sets.now c.args.subset
-    c.into-iter-w-iterator.result.rest c.pick.w-iterator.rest c.pick.best c.args.place c.pick.invariant
+    c.into_iter-w-iterator.result.rest c.pick.w-iterator.rest c.pick.best c.args.place c.pick.invariant
     c.in-None.ensures.steps.0
-    (gone_through c.into-iter-w-iterator.result c.iter-w-items.result c.intersection-works.result c.args.free one
-    c.into-iter-w-iterator.ensures.into-iter-gives c.iter-w-items.ensures c.intersection-works.ensures)
+    (gone_through c.into_iter-w-iterator.result c.iter-w-items.result c.intersection-works.result c.args.free one
+    c.into_iter-w-iterator.ensures.into_iter-gives c.iter-w-items.ensures c.intersection-works.ensures)
     c.requires.member

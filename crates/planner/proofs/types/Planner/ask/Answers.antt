@@ -7,8 +7,8 @@ use Rattle.planner.specs.Asks.{Asks}
 use Rattle.planner.proofs.Asking.{asked_misput, asked_refused, asked_answered}
 use Rattle.planner.proofs.types.Planner.ask.Goals as goal
 
-pub returns-in-err-check-question : goal.returns-in-err-check-question
-returns-in-err-check-question g c =
+pub returns-in_err-check_question : goal.returns-in_err-check_question
+returns-in_err-check_question g c =
     let t = g.T.Tariff.scale in
     let k = task_of c.args.self.now.scheme in
     let kept = g.C.Chooser.kept c.args.self.now.chooser in
@@ -16,12 +16,12 @@ returns-in-err-check-question g c =
     let Answers : Result (Answer g.row.T-Value.Denot) Refusal → Type 0 = λ r.
     Asks t g.C.Chooser.room k kept c.args.prices.now c.args.bars from r from k kept
     in
-    refusal_passed Answers c.from-residual.result c.in-err-check-question.field-0.0 c.from-residual.ensures.1
-    (asked_misput t g.C.Chooser.room k c.args.prices.now c.args.bars kept from c.in-err-check-question.field-0.0
-    c.in-err-check-question.ensures)
+    refusal_passed Answers c.from_residual.result c.in_err-check_question.field-0.0 c.from_residual.ensures.1
+    (asked_misput t g.C.Chooser.room k c.args.prices.now c.args.bars kept from c.in_err-check_question.field-0.0
+    c.in_err-check_question.ensures)
 
-pub returns-in-err-found : goal.returns-in-err-found
-returns-in-err-found g c =
+pub returns-in_err-found : goal.returns-in_err-found
+returns-in_err-found g c =
     let t = g.T.Tariff.scale in
     let k = task_of c.args.self.now.scheme in
     let kept = g.C.Chooser.kept c.args.self.now.chooser in
@@ -30,14 +30,14 @@ returns-in-err-found g c =
     let Answers : Result (Answer g.row.T-Value.Denot) Refusal → Type 0 = λ r.
     Asks t g.C.Chooser.room k kept c.args.prices.now c.args.bars from r from k to
     in
-    refusal_passed Answers c.from-residual-in-err-found.result c.in-err-found.field-0.0 c.from-residual-in-err-found.ensures.1
-    (asked_refused t g.C.Chooser.room k c.args.prices.now c.args.bars kept from c.in-ok-check-question.ensures
-    c.in-err-found.field-0.0 to c.in-err-found.ensures)
+    refusal_passed Answers c.from_residual-in_err-found.result c.in_err-found.field-0.0 c.from_residual-in_err-found.ensures.1
+    (asked_refused t g.C.Chooser.room k c.args.prices.now c.args.bars kept from c.in_ok-check_question.ensures
+    c.in_err-found.field-0.0 to c.in_err-found.ensures)
 
 pub returns : goal.returns
 returns g c =
-    let finds = c.in-ok-found.ensures in
+    let finds = c.in_ok-found.ensures in
     asked_answered g.T.Tariff.scale g.C.Chooser.room (task_of c.args.self.now.scheme) c.args.prices.now c.args.bars
-    (g.C.Chooser.kept c.args.self.now.chooser) c.args.order.now c.in-ok-check-question.ensures
-    c.in-ok-found.found c.in-ok-length.length c.set_cost.result c.order.new.places
-    (g.C.Chooser.kept c.find.new.chooser) finds c.in-ok-length.ensures.1 c.set_cost.ensures
+    (g.C.Chooser.kept c.args.self.now.chooser) c.args.order.now c.in_ok-check_question.ensures
+    c.in_ok-found.found c.in_ok-length.length c.set_cost.result c.order.new.places
+    (g.C.Chooser.kept c.find.new.chooser) finds c.in_ok-length.ensures.1 c.set_cost.ensures

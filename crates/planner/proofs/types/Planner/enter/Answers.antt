@@ -9,15 +9,15 @@ use Rattle.rounds.proofs.Exits.{refusal_passed}
 use Rattle.rules.proofs.Effects.{effect_entered, effect_not_entered}
 use Rattle.planner.proofs.types.Planner.enter.Goals as goal
 
-pub returns-in-err-number : goal.returns-in-err-number
-returns-in-err-number g c =
+pub returns-in_err-number : goal.returns-in_err-number
+returns-in_err-number g c =
     let k = task_of c.args.self.now.scheme in
     let after = task_of c.enter.new.self in
     let Edits : Result ℕ Refusal → Type 0 = λ r. Entered k (of_parts c.args.needs c.args.gives) r after in
-    let edit = c.in-err-number.ensures in
+    let edit = c.in_err-number.ensures in
     record {
-      edit = refusal_passed Edits c.from-residual.result c.in-err-number.field-0.0 c.from-residual.ensures.1 edit;
-      effect = effect_not_entered g.T.Tariff.scale g.C.Chooser.room k after (g.C.Chooser.kept c.args.self.now.chooser) c.args.needs c.args.gives c.in-err-number.field-0.0 edit;
+      edit = refusal_passed Edits c.from_residual.result c.in_err-number.field-0.0 c.from_residual.ensures.1 edit;
+      effect = effect_not_entered g.T.Tariff.scale g.C.Chooser.room k after (g.C.Chooser.kept c.args.self.now.chooser) c.args.needs c.args.gives c.in_err-number.field-0.0 edit;
     }
 
 pub returns : goal.returns
@@ -26,9 +26,9 @@ returns g c =
     let k = task_of c.args.self.now.scheme in
     let kept = g.C.Chooser.kept c.args.self.now.chooser in
     let after = task_of c.enter.new.self in
-    let edit = c.in-ok-number.ensures in
+    let edit = c.in_ok-number.ensures in
     let Effects : List Set → Type 0 = λ to. Effect t g.C.Chooser.room k kept (enter c.args.needs c.args.gives) after to in
     record {
       edit = edit;
-      effect = subst Effects (sym c.clear.ensures) (effect_entered t g.C.Chooser.room k after kept c.args.needs c.args.gives c.in-ok-number.number edit);
+      effect = subst Effects (sym c.clear.ensures) (effect_entered t g.C.Chooser.room k after kept c.args.needs c.args.gives c.in_ok-number.number edit);
     }

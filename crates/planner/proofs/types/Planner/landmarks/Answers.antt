@@ -3,7 +3,7 @@ use Rattle.std.proofs.lemmas.List.{drop-drop, drop-set-lt, map_more, take_all, t
 use Rattle.sets.specs.declared.Set.{Set}
 use Rattle.planner.specs.Landmarks.{number}
 use Rattle.planner.proofs.types.Planner.landmarks.Goals as goal
-use Rattle.planner.proofs.types.Planner.landmarks.Goals.{in-Some, in-default}
+use Rattle.planner.proofs.types.Planner.landmarks.Goals.{in-Some, in_default}
 
 pub loop-place-preserved : goal.loop-place-preserved
 loop-place-preserved g c =
@@ -24,7 +24,7 @@ loop-place-preserved g c =
                 ∙ drop-set-lt (i + 1) places i w.bits.result (omega arith)
                 ∙ sym (drop-drop 1 i places) ∙ ap (drop 1) c.loop-place.invariant.1 ∙ drop-drop 1 i c.args.places.now,
           )
-      | in-default w ↦ absurd (omega (arith, w.in-default.ensures, c.count-count.ensures.value))
+      | in_default w ↦ absurd (omega (arith, w.in_default.ensures, c.count-count.ensures.value))
     ]
 
 pub returns : goal.returns

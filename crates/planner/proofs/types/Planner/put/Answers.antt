@@ -10,5 +10,5 @@ returns-in-Err g c =
 pub returns : goal.returns
 returns g c =
     leads_found g.T.Tariff.scale g.C.Chooser.room (task_of c.args.self.now.scheme) c.args.prices.now c.args.bars
-    (g.C.Chooser.kept c.args.self.now.chooser) c.args.places c.in-default.ensures c.find.result
+    (g.C.Chooser.kept c.args.self.now.chooser) c.args.places c.in_default.ensures c.find.result
     (g.C.Chooser.kept c.find.new.chooser) c.find.ensures

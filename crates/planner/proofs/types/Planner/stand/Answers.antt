@@ -9,15 +9,15 @@ use Rattle.rounds.proofs.Exits.{refusal_passed}
 use Rattle.rules.proofs.Effects.{effect_stood, effect_stood_before, effect_not_stood}
 use Rattle.planner.proofs.types.Planner.stand.Goals as goal
 
-pub returns-in-err-added : goal.returns-in-err-added
-returns-in-err-added g c =
+pub returns-in_err-added : goal.returns-in_err-added
+returns-in_err-added g c =
     let k = task_of c.args.self.now.scheme in
     let after = task_of c.stand.new.self in
     let Edits : Result Bool Refusal → Type 0 = λ r. Stood k c.args.item r after in
-    let edit = c.in-err-added.ensures in
+    let edit = c.in_err-added.ensures in
     record {
-      edit = refusal_passed Edits c.from-residual.result c.in-err-added.field-0.0 c.from-residual.ensures.1 edit;
-      effect = effect_not_stood g.T.Tariff.scale g.C.Chooser.room k after (g.C.Chooser.kept c.args.self.now.chooser) c.args.item c.in-err-added.field-0.0 edit;
+      edit = refusal_passed Edits c.from_residual.result c.in_err-added.field-0.0 c.from_residual.ensures.1 edit;
+      effect = effect_not_stood g.T.Tariff.scale g.C.Chooser.room k after (g.C.Chooser.kept c.args.self.now.chooser) c.args.item c.in_err-added.field-0.0 edit;
     }
 
 pub returns : goal.returns
@@ -27,7 +27,7 @@ returns g c =
     let kept = g.C.Chooser.kept c.args.self.now.chooser in
     let after = task_of c.stand.new.self in
     let Edits : Bool → Type 0 = λ b. Stood k c.args.item (Ok b) after in
-    let edit : Edits true = subst Edits c.if-not-added.false c.in-ok-added.ensures in
+    let edit : Edits true = subst Edits c.if-not-added.false c.in_ok-added.ensures in
     let Effects : List Set → Type 0 = λ to. Effect t g.C.Chooser.room k kept (stand c.args.item) after to in
     record {
       edit = edit;
@@ -39,7 +39,7 @@ returns-then-not-added g c =
     let k = task_of c.args.self.now.scheme in
     let after = task_of c.stand.new.self in
     let Edits : Bool → Type 0 = λ b. Stood k c.args.item (Ok b) after in
-    let edit : Edits false = subst Edits c.if-not-added.true c.in-ok-added.ensures in
+    let edit : Edits false = subst Edits c.if-not-added.true c.in_ok-added.ensures in
     record {
       edit = edit;
       effect = effect_stood_before g.T.Tariff.scale g.C.Chooser.room k after (g.C.Chooser.kept c.args.self.now.chooser) c.args.item edit;

@@ -4,7 +4,7 @@ use Rattle.report.proofs.refusals.FaultLineText.put.Goals as goal
 
 pub returns : goal.returns
 returns c =
-    puts_more (omega arith) c.put-bytes-next.ensures
-    (puts_more (omega arith) (puts_as (ap decimal c.number.ensures) c.put-number-next.ensures)
-    (puts_more (omega arith) c.put-bytes-next-2.ensures
-    (puts_more (omega arith) c.put-number-next-2.ensures c.put-bytes.ensures)))
+    puts_more (omega arith) c.put_bytes-next.ensures
+    (puts_more (omega arith) (puts_as (ap decimal c.number.ensures) c.put_number-next.ensures)
+    (puts_more (omega arith) c.put_bytes-next-2.ensures
+    (puts_more (omega arith) c.put_number-next-2.ensures c.put_bytes.ensures)))

@@ -4,5 +4,5 @@ use Rattle.report.proofs.refusals.RefusalLineText.put.Goals as goal
 
 pub returns : goal.returns
 returns c =
-    puts_more (omega arith) c.put-bytes-next.ensures
-    (puts_more (omega arith) (puts_as (ap decimal c.number.ensures) c.put-number-next.ensures) c.put-bytes.ensures)
+    puts_more (omega arith) c.put_bytes-next.ensures
+    (puts_more (omega arith) (puts_as (ap decimal c.number.ensures) c.put_number-next.ensures) c.put_bytes.ensures)

@@ -12,9 +12,9 @@ pub returns : goal.returns
 returns g c =
     let t = g.T.Tariff.scale in
     let prices = c.args.prices.now in
-    let sets = c.as-slice-sets.result.now in
+    let sets = c.as_slice-sets.result.now in
     let free = c.candidates.result in
     let Drawn : List Set → Type 0 = λ kept. Draws t prices c.args.bars kept c.least.result.best in
-    subst Drawn c.as-slice-sets.ensures.value
+    subst Drawn c.as_slice-sets.ensures.value
     (searched_draws t prices free sets c.args.bars (candidates_held t prices c.args.bars sets free c.candidates.ensures) c.least.result.best
     c.least.ensures)

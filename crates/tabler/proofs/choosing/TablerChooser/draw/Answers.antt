@@ -4,19 +4,19 @@ use Rattle.chooser.specs.Least.{Hitting, Least}
 use Rattle.tabler.proofs.Drawing.{least_of_best, none_of_unmet}
 use Rattle.tabler.proofs.choosing.TablerChooser.draw.Goals as goal
 
-pub returns-then-meets-all : goal.returns-then-meets-all
-returns-then-meets-all g c =
+pub returns-then-meets_all : goal.returns-then-meets_all
+returns-then-meets_all g c =
     let t = g.T.Tariff.scale in
     let prices = c.args.prices.now in
     let s = c.least.result in
-    subst (λ (kept : List Set). Least t prices c.args.bars kept s) c.as-slice-sets.ensures.value
-    (least_of_best t prices c.args.bars c.as-slice-sets.result.now c.candidates-free.result c.candidates-free.ensures s
+    subst (λ (kept : List Set). Least t prices c.args.bars kept s) c.as_slice-sets.ensures.value
+    (least_of_best t prices c.args.bars c.as_slice-sets.result.now c.candidates-free.result c.candidates-free.ensures s
     c.least.ensures)
 
-pub returns-else-meets-all : goal.returns-else-meets-all
-returns-else-meets-all g c =
+pub returns-else-meets_all : goal.returns-else-meets_all
+returns-else-meets_all g c =
     let t = g.T.Tariff.scale in
     let prices = c.args.prices.now in
-    subst (λ (kept : List Set). (o : Set) → Hitting t prices c.args.bars kept o → ⊥) c.as-slice-sets.ensures.value
-    (none_of_unmet t prices c.args.bars c.as-slice-sets.result.now c.candidates-free.result c.candidates-free.ensures
-    c.if-meets-all.ensures)
+    subst (λ (kept : List Set). (o : Set) → Hitting t prices c.args.bars kept o → ⊥) c.as_slice-sets.ensures.value
+    (none_of_unmet t prices c.args.bars c.as_slice-sets.result.now c.candidates-free.result c.candidates-free.ensures
+    c.if-meets_all.ensures)
