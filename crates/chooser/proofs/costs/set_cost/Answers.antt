@@ -7,7 +7,7 @@ pub loop-w-init : goal.loop-w-init
 loop-w-init g c _ =
     let start = c.into_iter-w-iterator.result.rest in
     let same : start ≡ c.args.set =
-    ap (λ i. i.rest) c.into_iter-w-iterator.ensures.into_iter-gives ∙ c.iter-w-items.ensures
+    ap (λ i. i.rest) c.into_iter-w-iterator.ensures.into_iter_gives ∙ c.iter-w-items.ensures
     in
     let small : start.bits < 2 ^ 64 = omega (arith, ap (λ s. s.bits) same) in
     tally_none g.T.Tariff.scale c.args.prices.now start c.nothing-total.result small c.nothing-total.ensures
@@ -26,7 +26,7 @@ returns g c capped =
     let prices = c.args.prices.now in
     let start = c.into_iter-w-iterator.result.rest in
     let same : start ≡ c.args.set =
-    ap (λ i. i.rest) c.into_iter-w-iterator.ensures.into_iter-gives ∙ c.iter-w-items.ensures
+    ap (λ i. i.rest) c.into_iter-w-iterator.ensures.into_iter_gives ∙ c.iter-w-items.ensures
     in
     tally_all t prices start c.loop-w.total c.loop-w.w-iterator.rest
     (c.loop-w.invariant (rw same capped)) c.in-None.ensures.steps.0

@@ -12,7 +12,7 @@ loop-one-init c = gathered_none c.args.free c.empty-found.result c.empty-found.e
 pub loop-one-preserved : goal.loop-one-preserved
 loop-one-preserved c =
     let kept = c.args.kept.now in
-    let i = c.loop-one.one_Index in
+    let i = c.loop-one.one-index in
     let After : List Set → Type 0 = λ sets. Gathered c.args.free sets c.union-found.result in
     subst After (sym (take_more kept i none c.loop-one-test.true))
     (gathered_more c.args.free (take i kept) (get_or kept i none) c.loop-one.found c.shared.result c.union-found.result
@@ -21,4 +21,4 @@ loop-one-preserved c =
 pub returns : goal.returns
 returns c =
     let Whole : List Set → Type 0 = λ kept. Gathered c.args.free kept c.loop-one.found in
-    subst Whole (take_all c.loop-one.one_Index c.args.kept.now c.loop-one-test.false) c.loop-one.invariant
+    subst Whole (take_all c.loop-one.one-index c.args.kept.now c.loop-one-test.false) c.loop-one.invariant

@@ -4,7 +4,7 @@ use Rattle.sets.specs.Member.{Has, Members}
 use Rattle.sets.proofs.Laws.{none_has, filled_with, filled_over, added_member}
 use Rattle.scheme.specs.Landmarks.{Leaves}
 use Rattle.scheme.proofs.landmarks.leaving.Goals as goal
-use Rattle.scheme.proofs.landmarks.leaving.Goals.{then-is-subset+then-not-is_subset, else-is_subset, else-is_subset-via-then-is-subset+else-not-is_subset, else-is_subset-via-else-is_subset}
+use Rattle.scheme.proofs.landmarks.leaving.Goals.{then-is_subset+then-not-is_subset, else-is_subset, else-is_subset-via-then-is_subset+else-not-is_subset, else-is_subset-via-else-is_subset}
 
 pub loop-w-init : goal.loop-w-init
 loop-w-init c k =
@@ -17,7 +17,7 @@ loop-w-preserved c =
     let P : ℕ → Type 0 = Leaves c.args.works.now c.args.items in
     let After : Set → Type 0 = λ found. Members found (λ w. (w < n + 1) × P w) in
     elim c.if-is_subset.branch [
-      | then-is-subset+then-not-is_subset w ↦
+      | then-is_subset+then-not-is_subset w ↦
           let over = w.if-not-is_subset.ensures in
           subst After (sym w.found-is)
           (filled_with P n (n + 1) c.loop-w.found refl c.loop-w.invariant w.with-found.result
@@ -26,7 +26,7 @@ loop-w-preserved c =
       | else-is_subset w ↦
           subst After (sym w.found-is)
           (filled_over P n (n + 1) c.loop-w.found refl c.loop-w.invariant (elim w.else-is_subset.branch [
-            | else-is_subset-via-then-is-subset+else-not-is_subset v ↦ λ leaves. leaves.1 v.if-not-is_subset.ensures
+            | else-is_subset-via-then-is_subset+else-not-is_subset v ↦ λ leaves. leaves.1 v.if-not-is_subset.ensures
             | else-is_subset-via-else-is_subset v ↦ λ leaves. let over = v.if-is_subset.ensures in over.2 (leaves.0 over.0 over.1)
           ]))
     ]

@@ -21,4 +21,4 @@ loop-w-preserved c =
     (omega (arith, placing_fits c.loop-w.invariant c.in-Some.ensures, c.loop-w.invariant.long)) c.without-left.ensures c.union-held.ensures
 
 pub returns : goal.returns
-returns c = placing_done c.loop-w.invariant c.in_default.ensures c.requires.1
+returns c = placing_done c.loop-w.invariant c.in_default.ensures c.requires.works_in_bounds

@@ -14,7 +14,7 @@ loop-one-preserved g c =
     let prices = c.args.prices.now in
     let sets = c.args.sets.now in
     let n = c.args.node in
-    let i = c.loop-one.one_Index in
+    let i = c.loop-one.one-index in
     elim c.match-cheapest_counted.branch [
       | in-Some w ↦ rw (w.bound-is, w.rest-is)
           (family_more t prices sets n c.loop-one.bound w.with-bound.result c.loop-one.rest w.minus-rest.result (get_or sets i none)

@@ -11,7 +11,7 @@ loop-one-init c = flooring_none c.args.sets.now c.args.node
 pub loop-one-preserved : goal.loop-one-preserved
 loop-one-preserved c =
     let sets = c.args.sets.now in
-    let i = c.loop-one.one_Index in
+    let i = c.loop-one.one-index in
     elim c.match-lowest_counted.branch [
       | in-Some w ↦ rw (w.bound-is, w.rest-is)
           (flooring_more sets c.args.node c.loop-one.bound w.with-bound.result c.loop-one.rest w.minus-rest.result (get_or sets i none)

@@ -11,7 +11,7 @@ pub loop-one-preserved : goal.loop-one-preserved
 loop-one-preserved c =
     let sets = c.args.sets.now in
     let chosen = c.args.node.chosen in
-    let i = c.loop-one.one_Index in
+    let i = c.loop-one.one-index in
     let one = get_or sets i none in
     let front = take_more sets i none c.loop-one-test.true in
     elim c.if-not-intersects.branch [
@@ -30,4 +30,4 @@ loop-one-preserved c =
 pub returns : goal.returns
 returns c =
     let Front : List Set → Type 0 = λ sets. Unmet sets c.args.node.chosen c.loop-one.found in
-    subst Front (take_all c.loop-one.one_Index c.args.sets.now c.loop-one-test.false) c.loop-one.invariant
+    subst Front (take_all c.loop-one.one-index c.args.sets.now c.loop-one-test.false) c.loop-one.invariant

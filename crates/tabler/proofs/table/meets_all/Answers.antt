@@ -10,7 +10,7 @@ each-preserved c = below_more _ _ c.each.invariant c.if-not-intersects.ensures
 pub returns-then-not-intersects : goal.returns-then-not-intersects
 returns-then-not-intersects c all =
     c.if-not-intersects.ensures
-    (all_at (Meet c.args.free) c.args.sets.now c.each.one_Index none c.each-test.true all)
+    (all_at (Meet c.args.free) c.args.sets.now c.each.one-index none c.each-test.true all)
 
 pub returns : goal.returns
 returns c = all_of_places (Meet c.args.free) none c.args.sets.now (λ i lt. c.each.invariant i (omega arith))
