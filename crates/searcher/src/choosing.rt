@@ -1,5 +1,5 @@
 //! What a searcher does as a chooser.
-ghost use Rattle.std.proofs.Common.{rules, arith};
+ghost use Rattle.std.proofs.Common.{rules};
 
 use crate::Searcher;
 use crate::search::least;
@@ -14,9 +14,9 @@ impl Chooser for Searcher {
 
     ghost room = { 64 };
 
-    ghost small = { first_of (Prim.search rules, Prim.grind (arith, Self.row.coded.inj)) };
+    ghost small = { Prim.search rules };
 
-    ghost fits = { first_of (Prim.search rules, Prim.grind (arith, Self.row.coded.inj)) };
+    ghost fits = { Prim.search rules };
 
     fn capacity(&self) -> usize {
         Self::LIMIT

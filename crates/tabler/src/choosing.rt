@@ -1,5 +1,5 @@
 //! What every chooser promises.
-ghost use Rattle.std.proofs.Common.{rules, arith};
+ghost use Rattle.std.proofs.Common.{rules};
 
 use crate::Tabler;
 use crate::table::{least, meets_all};
@@ -14,9 +14,9 @@ impl Chooser for Tabler {
 
     ghost room = { 12 };
 
-    ghost small = { first_of (Prim.search rules, Prim.grind (arith, Self.row.coded.inj)) };
+    ghost small = { Prim.search rules };
 
-    ghost fits = { first_of (Prim.search rules, Prim.grind (arith, Self.row.coded.inj)) };
+    ghost fits = { Prim.search rules };
 
     fn capacity(&self) -> usize {
         Self::LIMIT

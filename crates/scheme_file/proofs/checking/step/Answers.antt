@@ -12,7 +12,7 @@ returns c =
     let admitted = c.in_ok-next.ensures in
     let P : List ℕ → Type 0 = λ b. rest ≡ encode (record { kind = kind; body = b }) ++ drop (4 + length b) rest in
     let front : P body =
-    subst P (sym frame.1.1) (framed rest kind (λ i. omega (arith, c.type-inv.rest i)) frame.0 frame.1.0)
+    subst P (sym frame.1.1) (framed rest kind (λ i. omega (arith, c.type_inv.rest i)) frame.0 frame.1.0)
     in
     record {
       next = record { kind = kind; body = body };

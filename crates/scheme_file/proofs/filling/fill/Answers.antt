@@ -21,7 +21,7 @@ overflow_add-at c =
     let m = c.args.counts.works in
     let rows = c.fill_works-at.new.rows in
     let t = works_end (take m rows) _ _ m (length-take-le m rows (omega (arith, c.requires.0))) c.fill_works-at.ensures.filled in
-    omega (arith, t.room, c.well-formed)
+    omega (arith, t.room, c.well_formed)
 
 pub long-requires : goal.long-requires
 long-requires c =
@@ -35,7 +35,7 @@ overflow_add-at-2 c =
     let m = c.args.counts.works in
     let rows = c.fill_works-at.new.rows in
     let t = works_end (take m rows) _ _ m (length-take-le m rows (omega (arith, c.requires.0))) c.fill_works-at.ensures.filled in
-    omega (arith, t.room, c.well-formed)
+    omega (arith, t.room, c.well_formed)
 
 pub long-requires-2 : goal.long-requires-2
 long-requires-2 c =

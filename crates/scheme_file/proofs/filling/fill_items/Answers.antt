@@ -17,7 +17,7 @@ pub overflow_add-at : goal.overflow_add-at
 overflow_add-at c =
     let t = c.loop-i.invariant.0 c.requires.1.0 c.requires.1.1 in
     let n = item_at c.loop-i.rows c.loop-i.i c.loop-i.at c.args.count c.requires.1.0 (omega (arith, c.requires.0)) c.loop-i-test.true t in
-    omega (arith, size_here n, room_here n, c.item_row-row.ensures.len, c.item_row-row.ensures.start, c.well-formed)
+    omega (arith, size_here n, room_here n, c.item_row-row.ensures.len, c.item_row-row.ensures.start, c.well_formed)
 
 pub loop-i-preserved : goal.loop-i-preserved
 loop-i-preserved c =

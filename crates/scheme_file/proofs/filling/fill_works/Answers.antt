@@ -23,7 +23,7 @@ work_row-row-requires c =
 pub overflow_add-at : goal.overflow_add-at
 overflow_add-at c =
     let n = work_at c.loop-i.rows c.args.from c.loop-i.i c.loop-i.at c.args.count (omega (arith, c.requires.0)) c.loop-i-test.true c.loop-i.invariant.0 in
-    omega (arith, size_here n, room_here n, c.work_row-row.ensures.len, c.work_row-row.ensures.start, c.well-formed)
+    omega (arith, size_here n, room_here n, c.work_row-row.ensures.len, c.work_row-row.ensures.start, c.well_formed)
 
 pub loop-i-preserved : goal.loop-i-preserved
 loop-i-preserved c =

@@ -12,5 +12,5 @@ returns c =
     record {
       value = e;
       bytes =
-          ap (le 8) e ∙ le_value 8 (drop at bytes) (simp length-drop (omega arith)) (λ i. rw get_or-drop (omega (arith, c.type-inv.bytes (at + i))));
+          ap (le 8) e ∙ le_value 8 (drop at bytes) (simp length-drop (omega arith)) (λ i. rw get_or-drop (omega (arith, c.type_inv.bytes (at + i))));
     }

@@ -5,5 +5,5 @@ use Rattle.scheme_file.proofs.putting.put_frame.Goals as goal
 
 pub returns : goal.returns
 returns c =
-    wrote_more (wrote_as c.word_bytes.ensures c.put_at.ensures)
+    wrote_more (wrote_as c.word_bytes.ensures c.put-at.ensures)
     (wrote_as (c.word_bytes-2.ensures ∙ ap (le 2) c.code.ensures) c.put.ensures)

@@ -10,4 +10,4 @@ returns c =
     let row = c.args.row in
     let name = bytes_at c.args.text.now row.name in
     wrote_as (frame_body Item (1 + row.name.len) (row.number ∷ name) (omega (arith, name_size c.args.text.now row.name c.requires.0)))
-    (wrote_more c.put_frame-at.ensures (wrote_more c.put_at.ensures c.put_name.ensures))
+    (wrote_more c.put_frame-at.ensures (wrote_more c.put-at.ensures c.put_name.ensures))

@@ -14,7 +14,7 @@ returns c =
     let body = (work_record (entry_in text c.args.work row)).body in
     wrote_as (frame_body Work (20 + row.name.len) body (omega (arith, name_size text row.name c.requires.0.lies)))
     (wrote_more c.put_frame-at.ensures
-    (wrote_more (wrote_as (c.long_bytes.ensures ∙ ap (le 8) c.bits.ensures) c.put_at.ensures)
-    (wrote_more (wrote_as (c.long_bytes-2.ensures ∙ ap (le 8) c.bits-2.ensures) c.put_at-2.ensures)
-    (wrote_more (wrote_as c.word_bytes.ensures c.put_at-3.ensures)
-    (wrote_more (wrote_as c.word_bytes-2.ensures c.put_at-4.ensures) c.put_name.ensures)))))
+    (wrote_more (wrote_as (c.long_bytes.ensures ∙ ap (le 8) c.bits.ensures) c.put-at.ensures)
+    (wrote_more (wrote_as (c.long_bytes-2.ensures ∙ ap (le 8) c.bits-2.ensures) c.put-at-2.ensures)
+    (wrote_more (wrote_as c.word_bytes.ensures c.put-at-3.ensures)
+    (wrote_more (wrote_as c.word_bytes-2.ensures c.put-at-4.ensures) c.put_name.ensures)))))

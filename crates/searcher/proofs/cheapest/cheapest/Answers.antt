@@ -9,7 +9,7 @@ pub loop-w-init : goal.loop-w-init
 loop-w-init g c =
     let start = c.into_iter-w-iterator.result.rest in
     let same : start ≡ c.args.set =
-    ap (λ i. i.rest) c.into_iter-w-iterator.ensures.into_iter-gives ∙ c.iter-w-items.ensures
+    ap (λ i. i.rest) c.into_iter-w-iterator.ensures.into_iter_gives ∙ c.iter-w-items.ensures
     in
     let w = c.in_ok-least.least in
     let low = c.in_ok-least.ensures in
@@ -27,7 +27,7 @@ returns g c =
     let prices = c.args.prices.now in
     let start = c.into_iter-w-iterator.result.rest in
     let same : start ≡ c.args.set =
-    ap (λ i. i.rest) c.into_iter-w-iterator.ensures.into_iter-gives ∙ c.iter-w-items.ensures
+    ap (λ i. i.rest) c.into_iter-w-iterator.ensures.into_iter_gives ∙ c.iter-w-items.ensures
     in
     let Found : Set → Type 0 = λ s. Cheapest t prices s c.loop-w.least in
     subst Found same (tried_all t prices start c.loop-w.w-iterator.rest c.loop-w.least c.loop-w.invariant c.in-None.ensures.steps.0)

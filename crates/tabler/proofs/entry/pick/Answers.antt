@@ -25,7 +25,7 @@ in_both :
     Has c.args.free c.in-Some.w × Has (get_or c.args.sets.now c.args.place none) c.in-Some.w
 in_both g c =
     (gone_through c.into_iter-w-iterator.result c.iter-w-items.result c.intersection-works.result c.args.free
-    (get_or c.args.sets.now c.args.place none) c.into_iter-w-iterator.ensures.into_iter-gives c.iter-w-items.ensures
+    (get_or c.args.sets.now c.args.place none) c.into_iter-w-iterator.ensures.into_iter_gives c.iter-w-items.ensures
     c.intersection-works.ensures c.in-Some.w).0
     (c.pick.invariant.within c.in-Some.w c.in-Some.ensures.steps.0.member)
 
@@ -70,5 +70,5 @@ returns g c =
     c.into_iter-w-iterator.result.rest c.pick.w-iterator.rest c.pick.best c.args.place c.pick.invariant
     c.in-None.ensures.steps.0
     (gone_through c.into_iter-w-iterator.result c.iter-w-items.result c.intersection-works.result c.args.free one
-    c.into_iter-w-iterator.ensures.into_iter-gives c.iter-w-items.ensures c.intersection-works.ensures)
+    c.into_iter-w-iterator.ensures.into_iter_gives c.iter-w-items.ensures c.intersection-works.ensures)
     c.requires.member

@@ -6,7 +6,7 @@ use Rattle.searcher.proofs.Walks.{searched_draws}
 use Rattle.searcher.proofs.choosing.SearcherChooser.draw.Goals as goal
 
 pub least-requires : goal.least-requires
-least-requires g c κs w h = ((c.candidates.ensures w).0 h).0.1
+least-requires g c w h = ((c.candidates.ensures w).0 h).0.1
 
 pub returns : goal.returns
 returns g c =
