@@ -28,5 +28,5 @@ returns g c =
     sym (append-nil text)
     ∙ ap (λ xs. text ++ lines line xs) (sym (members_none c.loop-item.item-iterator.rest c.in-None.ensures.steps.0))
     ∙ c.loop-item.invariant
-    ∙ ap (λ (it : SetIter). start ++ lines line (members it.rest)) c.into_iter-item-iterator.ensures.into_iter-gives
+    ∙ ap (λ (it : SetIter). start ++ lines line (members it.rest)) c.into_iter-item-iterator.ensures.into_iter_gives
     ∙ ap (λ (s : Set). start ++ lines line (members s)) c.iter-item-items.ensures
