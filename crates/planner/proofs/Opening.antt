@@ -1,7 +1,6 @@
 -- An accepted reading is an opening and then the file's entries, standings and wants.
 use Rattle.std.proofs.Common.{◌≡◌, ℕ, ◌≤◌, List, [], ◌∷◌, length, sym, refl, subst, arith}
-use Rattle.std.specs.List as std
-use Rattle.std.proofs.lemmas.List.Elements.{All-head, All-tail}
+use Rattle.std.specs.List.{AllByRecursion}
 use Rattle.sets.specs.declared.Set.{Set}
 use Rattle.sets.specs.Member.{none}
 use Rattle.scheme.specs.declared.Work.{Work}
@@ -23,12 +22,11 @@ module _ (text : List ℕ) where
   pub entries_give :
       (works : List Work) (rows : List WorkRow) →
       length rows ≡ length works →
-      std.All Giving (entries text works rows) →
+      AllByRecursion Giving (entries text works rows) →
       All (λ (w : Work). w.gives ≡ none → ⊥) works
   entries_give [] rows e h = tt
   entries_give (w ∷ works) [] e h = absurd (omega arith)
-  entries_give (w ∷ works) (r ∷ rows) e h = 
-      ((All-head Giving _ _ h).some, entries_give works rows (omega arith) (All-tail Giving _ _ h))
+  entries_give (w ∷ works) (r ∷ rows) e h = (h.0.some, entries_give works rows (omega arith) h.1)
 
 pub opens :
     {V : Type 0} (t : Scale V) (capacity : ℕ) (bytes : List ℕ) (k : Task) (kept : List Set) (rows : List WorkRow) (items : List ItemRow) →

@@ -1,7 +1,6 @@
 -- What a file tells of its works, by their rows.
 use Rattle.std.proofs.Common.{◌≡◌, ℕ, zero, suc, ◌≤◌, List, [], ◌∷◌, ◌++◌, map, length, get_or, refl, ap, ap₂, arith}
-use Rattle.std.specs.List as std
-use Rattle.std.proofs.lemmas.List.Elements.{All-head, All-tail}
+use Rattle.std.specs.List.{AllByRecursion}
 use Rattle.std.specs.List.{flat_map}
 use Rattle.scheme.specs.declared.Work.{Work}
 use Rattle.scheme_file.specs.declared.rows.WorkRow.{WorkRow}
@@ -27,14 +26,12 @@ module _ (bytes : List ℕ) where
   pub entries_within :
       (works : List Work) (rows : List WorkRow) →
       length rows ≡ length works →
-      std.All SoundEntry (entries bytes works rows) →
+      AllByRecursion SoundEntry (entries bytes works rows) →
       All (λ p. p ≤ 65535) (map row_pounds rows)
   entries_within [] [] e h = tt
   entries_within [] (r ∷ rows) e h = absurd (omega arith)
   entries_within (w ∷ works) [] e h = absurd (omega arith)
-  entries_within (w ∷ works) (r ∷ rows) e h = 
-      let first = All-head SoundEntry _ _ h in
-      (omega (arith, first.pounds), entries_within works rows (omega arith) (All-tail SoundEntry _ _ h))
+  entries_within (w ∷ works) (r ∷ rows) e h = (omega (arith, h.0.pounds), entries_within works rows (omega arith) h.1)
 
   -- the line of the work w, under the number n
   line_at :

@@ -15,7 +15,7 @@ report_scheme-requires g c =
     let read = c.in-Ok.ensures.answer in
     let items = take n.items c.read.new.items in
     let Held : ℕ → Type 0 = λ count. Reads c.args.bytes.now (task_of (scheme_of c.read.new.self)) (take count c.read.new.works) items in
-    ((items, subst Held (sym (sub-zero n.works)) read.0.reads), read.1)
+    record { reads = (items, subst Held (sym (sub-zero n.works)) read.0.reads); opens = read.1 }
 
 pub returns-in-Ok : goal.returns-in-Ok
 returns-in-Ok g c =

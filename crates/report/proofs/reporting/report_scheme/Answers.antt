@@ -14,7 +14,7 @@ use Rattle.report.proofs.reporting.report_scheme.Goals as goal
 
 pub list_pounds-requires : goal.list_pounds-requires
 list_pounds-requires g c =
-    rows_few c.args.bytes.now (task_of (scheme_of c.args.planner.now)) c.args.rows.now c.requires.0.0 c.requires.0.1
+    rows_few c.args.bytes.now (task_of (scheme_of c.args.planner.now)) c.args.rows.now c.requires.reads.0 c.requires.reads.1
 
 pub returns-in-Ok : goal.returns-in-Ok
 returns-in-Ok g c =
@@ -33,8 +33,8 @@ returns-in-Ok g c =
     Published (flat_map (row_line bytes rows) (take n order) ++ total_line a.total) c.args.page.now c.publish_lines.result c.publish_lines.new.page
     in
     record {
-      text = printed bytes k rows c.requires.0.0 c.requires.0.1 (Ok a) order;
-      answered = tells bytes k rows c.requires.0.0 c.requires.0.1 prices listed g.C.Chooser.room kept _ (Ok a) order after to c.requires.1 refl
+      text = printed bytes k rows c.requires.reads.0 c.requires.reads.1 (Ok a) order;
+      answered = tells bytes k rows c.requires.reads.0 c.requires.reads.1 prices listed g.C.Chooser.room kept _ (Ok a) order after to c.requires.opens refl
           (subst Put c.empty.ensures c.in-Ok.ensures);
       published = subst Shown (sub-zero a.length) c.publish_lines.ensures;
     }
@@ -53,8 +53,8 @@ returns-in-Err g c =
     let e = c.in-Err.refusal in
     let Put : Set → Type 0 = λ bars. Asks pounds_scale g.C.Chooser.room k kept prices bars _ (Err e) order after to in
     record {
-      text = printed bytes k rows c.requires.0.0 c.requires.0.1 (Err e) order;
-      answered = tells bytes k rows c.requires.0.0 c.requires.0.1 prices listed g.C.Chooser.room kept _ (Err e) order after to c.requires.1 refl
+      text = printed bytes k rows c.requires.reads.0 c.requires.reads.1 (Err e) order;
+      answered = tells bytes k rows c.requires.reads.0 c.requires.reads.1 prices listed g.C.Chooser.room kept _ (Err e) order after to c.requires.opens refl
           (subst Put c.empty.ensures c.in-Err.ensures);
       published = c.publish.ensures;
     }
