@@ -1,5 +1,5 @@
 -- Bytes put one after another.
-use Rattle.std.proofs.Common.{◌≡◌, ℕ, ◌+◌, ◌-◌, ◌^◌, ◌<◌, ◌≤◌, min, List, [], ◌∷◌, ◌++◌, length, sym, subst, add-zero, arith, length-append}
+use Rattle.std.proofs.Common.{◌≡◌, ℕ, ◌+◌, ◌^◌, ◌<◌, List, [], ◌++◌, length, sym, subst, add-zero, arith, length-append}
 use Rattle.scheme_file.specs.Passes.{Wrote}
 use Rattle.scheme_file.proofs.Puts.{wrote_length, wrote_more, wrote_none}
 use Rattle.page.specs.Puts.{Puts}

@@ -1,15 +1,12 @@
 -- Reading a paper place by place.
-use Rattle.std.proofs.Common.{◌≡◌, ℕ, ◌+◌, ◌<◌, ◌≤◌, ◌⊎◌, List, [], ◌∷◌, length, Ok, Err, Result, ap, ◌∙◌, subst, inr, ⊎_elim}
+use Rattle.std.proofs.Common.{◌≡◌, ℕ, ◌+◌, ◌<◌, ◌⊎◌, List, [], ◌∷◌, length, ap, ◌∙◌, subst, ⊎_elim}
 use Rattle.sets.specs.declared.Set.{Set}
 use Rattle.sets.specs.Member.{Has, Sub, Members, Lowest}
 use Rattle.sets.proofs.Laws.{has_or_not}
 use Rattle.scheme.specs.declared.Work.{Work}
-use Rattle.scheme.specs.declared.refusals.Refusal.{Refusal}
 use Rattle.scheme.specs.Carrying.{LowestLacking}
 use Rattle.scheme.specs.Task.{Task, work}
 use Rattle.scheme.specs.Orders.{Plan, finished, onward}
-use Rattle.tariff.specs.Amounts.{Scale}
-use Rattle.rules.specs.Calls.{Fair, Held}
 use Rattle.rules.specs.Marks.{Flaw, Flawed, later}
 use Rattle.planner.specs.Papers.{task_from}
 use Rattle.rules.proofs.Flaws.{EndsWell}

@@ -1,5 +1,5 @@
 -- Bytes have one text.
-use Rattle.std.proofs.Common.{◌≡◌, ℕ, List, [], Ok, Err, Result, sym, refl, ap, ◌∙◌, subst, ap₂, inl, inr, ⊎_elim, arith}
+use Rattle.std.proofs.Common.{◌≡◌, ℕ, List, [], Ok, Err, Result, sym, ap, ◌∙◌, subst, ap₂, inl, inr, ⊎_elim, arith}
 use Rattle.sets.specs.declared.Set.{Set}
 use Rattle.sets.specs.Member.{none}
 use Rattle.scheme.specs.Task.{Task}

@@ -1,5 +1,5 @@
 -- The question on a scheme that was read from a file, and what is printed of its answer.
-use Rattle.std.proofs.Common.{◌≡◌, ℕ, ◌≤◌, List, [], ◌++◌, map, length, take, Ok, Err, codes, decimal, Result, sym, refl, ap, ◌∙◌, subst, subst₂, inl, inr, arith}
+use Rattle.std.proofs.Common.{◌≡◌, ℕ, ◌≤◌, List, [], ◌++◌, map, length, take, Ok, Err, codes, decimal, Result, sym, ap, ◌∙◌, subst, subst₂, inl, inr, arith}
 use lib.ListN.{length-map}
 use Rattle.std.specs.List.{flat_map}
 use Rattle.sets.specs.declared.Set.{Set}
@@ -7,7 +7,6 @@ use Rattle.sets.specs.Member.{none}
 use Rattle.sets.proofs.Laws.{none_has}
 use Rattle.scheme.specs.declared.Work.{Work}
 use Rattle.scheme.specs.declared.refusals.Refusal.{Refusal}
-use Rattle.scheme.specs.declared.refusals.Refusal.TheVariants.{OutOfReach, CapacitySpent}
 use Rattle.scheme.specs.Task.{Task}
 use Rattle.scheme_file.specs.declared.rows.ItemRow.{ItemRow}
 use Rattle.scheme_file.specs.declared.rows.WorkRow.{WorkRow}
@@ -23,7 +22,7 @@ use Rattle.planner.specs.Files.{Opens}
 use Rattle.planner.specs.Views.{Says}
 use Rattle.planner.proofs.Opening.{entries_many}
 use Rattle.report.specs.Lines.{outcome_text, refusal_text, total_line}
-use Rattle.report.specs.Report.{Answered, pounds_in, task_in}
+use Rattle.report.specs.Report.{Answered, task_in}
 use Rattle.report.specs.Rows.{row_line, row_pounds}
 use Rattle.report.proofs.Entries.{entries_pounds, entries_within, entries_works, lines_same}
 

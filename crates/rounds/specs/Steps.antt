@@ -1,5 +1,5 @@
 -- What the steps of the code answer, in the words of the rules.
-use Rattle.std.specs.Prelude.{◌≡◌, ℕ, ◌⊎◌, List, length, Some, None, Ok, Err, Option, Result}
+use Rattle.std.specs.Prelude.{◌≡◌, ℕ, ◌⊎◌, List, Some, None, Ok, Err, Option, Result}
 use Rattle.sets.specs.declared.Set.{Set}
 use Rattle.scheme.specs.Task.{Task}
 use Rattle.scheme.specs.declared.refusals.Refusal.{Refusal}
@@ -9,7 +9,7 @@ use Rattle.scheme.specs.Landmarks.{Landmark}
 use Rattle.tariff.specs.Amounts.{Scale, All}
 use Rattle.rules.specs.Rules.{Ending, Unbarred, Run, Settled}
 use Rattle.rules.specs.Rules.Ending.{reached, exhausted}
-use Rattle.rules.specs.Calls.{Fair, Held, Valid}
+use Rattle.rules.specs.Calls.{Fair}
 use Rattle.rounds.specs.declared.finding.Found.{Found}
 
 -- the ending that a found set, or none, stands for

@@ -1,8 +1,8 @@
 -- Placing the works of a set one after another.
-use Rattle.std.proofs.Common.{◌≡◌, ℕ, ◌+◌, ◌<◌, ◌≤◌, ◌⊎◌, List, [], ◌∷◌, ◌++◌, length, take, drop, set, sym, refl, ap, ◌∙◌, subst, inl, inr, ⊎_elim, append_assoc, arith, length-set}
+use Rattle.std.proofs.Common.{◌≡◌, ℕ, ◌+◌, ◌<◌, ◌≤◌, ◌⊎◌, List, [], ◌∷◌, ◌++◌, length, take, drop, set, sym, refl, ap, ◌∙◌, subst, append_assoc, arith, length-set}
 use lib.Count.{ones}
 use Rattle.sets.specs.declared.Set.{Set}
-use Rattle.sets.specs.Member.{Has, Members, Sub}
+use Rattle.sets.specs.Member.{Has, Members}
 use Rattle.sets.proofs.Laws.{count_within, count_without, none_has}
 use Rattle.std.proofs.lemmas.List.{take_more_set, append-nil, drop-set-lt, drop-drop}
 use Rattle.scheme.specs.declared.Work.{Work}

@@ -1,5 +1,5 @@
 -- What each call that edits a scheme answers, and what the scheme holds then. A refused call leaves it as it was.
-use Rattle.std.specs.Prelude.{◌≡◌, ℕ, ◌<◌, ◌≤◌, Bool, ◌⊎◌, List, [], ◌∷◌, ◌++◌, length, set, Ok, Err, MatchBool, Result, ◌≢◌, slice_set}
+use Rattle.std.specs.Prelude.{◌≡◌, ℕ, ◌<◌, ◌≤◌, Bool, ◌⊎◌, List, [], ◌∷◌, ◌++◌, length, Ok, Err, MatchBool, Result, ◌≢◌, slice_set}
 use Rattle.sets.specs.declared.Set.{Set}
 use Rattle.sets.specs.Member.{Has, Members, none}
 use Rattle.scheme.specs.declared.Work.{Work}

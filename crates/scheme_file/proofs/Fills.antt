@@ -10,7 +10,6 @@ use Rattle.scheme.specs.declared.Work.{Work}
 use Rattle.scheme.specs.Edits.{Entered, with_works}
 use Rattle.scheme.specs.Task.{Task}
 use Rattle.scheme_file.specs.declared.kinds.Kind.{Kind}
-use Rattle.scheme_file.specs.declared.kinds.Kind.TheVariants as Kind
 use Rattle.scheme_file.specs.declared.places.Place.{Place}
 use Rattle.scheme_file.specs.declared.rows.ItemRow.{ItemRow}
 use Rattle.scheme_file.specs.declared.rows.WorkRow.{WorkRow}

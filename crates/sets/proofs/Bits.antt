@@ -1,6 +1,6 @@
 -- The binary digits of a number.
-use Rattle.std.proofs.Common.{◌≡◌, ℕ, zero, suc, ◌+◌, ◌-◌, ◌*◌, ◌/◌, ◌%◌, ◌^◌, ◌<◌, ◌≤◌, min, max, ◌≢◌, ◌⊎◌, List, [], ◌∷◌, length, sym, refl, ap, ◌∙◌, subst, inl, inr, zero-le, lt_of_lt_of_le, mod-eq_of_lt, mul_comm, le_antisymm, pow-suc, div-one, mul-div_cancel, add-one, one-add, arith, pow_pos, pow_mono, shr-shr}
-use native.Mathlib.Nat.{div_self, div-eq_of_lt, zero-div, min-zero, max-zero, zero-min, zero-max, zero-mod, mul-mod_left}
+use Rattle.std.proofs.Common.{◌≡◌, ℕ, zero, suc, ◌+◌, ◌-◌, ◌/◌, ◌%◌, ◌^◌, ◌<◌, ◌≤◌, min, max, List, [], ◌∷◌, length, sym, refl, ap, ◌∙◌, subst, inl, inr, zero-le, lt_of_lt_of_le, le_antisymm, pow-suc, div-one, mul-div_cancel, one-add, arith, pow_pos, pow_mono, shr-shr}
+use native.Mathlib.Nat.{div_self, div-eq_of_lt, zero-div, mul-mod_left}
 use lib.Arith.{bin_ind, digits_mod}
 use lib.Bits.{bit_and, bit_or, and_step, or_step, and_shr, or_shr}
 use lib.Count.{count_trailing_zeros, under, ones, ones_step}

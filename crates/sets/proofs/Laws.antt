@@ -1,14 +1,13 @@
 -- The laws of membership.
-use Rattle.std.proofs.Common.{◌≡◌, ℕ, zero, suc, ◌+◌, ◌-◌, ◌/◌, ◌%◌, ◌^◌, ◌<◌, ◌≤◌, ◌⊎◌, List, length, sym, refl, ap, subst, inl, inr, ⊎_elim, zero-add, arith, pow_pos}
+use Rattle.std.proofs.Common.{◌≡◌, ℕ, zero, suc, ◌+◌, ◌-◌, ◌^◌, ◌<◌, ◌≤◌, ◌⊎◌, List, length, sym, refl, ap, subst, inl, inr, ⊎_elim, zero-add, arith, pow_pos}
 use native.Mathlib.Nat.{sub-zero}
 use native.Mathlib.Decide.{dec_lt}
-use lib.Arith.{bin_ind}
 use lib.Bits.{bit_and, bit_or}
 use lib.Count.{ones, ones-le}
 use Rattle.sets.specs.Listed.{Listed, In}
 use Rattle.sets.specs.declared.Set.{Set}
 use Rattle.sets.specs.Member.{Has, Members, Sub, Meet}
-use Rattle.sets.proofs.Bits.{bit, bit_of_and, bit_of_or, bit_none, bit_zero, bit_suc, bits_le, bit_high, bit_weight, bit_weight_other, bit_turned, below_pow, digits_listed, ones_fewer}
+use Rattle.sets.proofs.Bits.{bit, bit_of_and, bit_of_or, bit_none, bits_le, bit_high, bit_weight, bit_weight_other, bit_turned, below_pow, digits_listed, ones_fewer}
 
 -- ---- one set
 

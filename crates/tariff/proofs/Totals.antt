@@ -1,5 +1,5 @@
 -- Totals of prices within the ceiling.
-use Rattle.std.proofs.Common.{◌≡◌, ℕ, ◌+◌, ◌≤◌, List, [], ◌∷◌, ◌++◌, length, sym, refl, ap, ◌∙◌, suc-ne-zero, length-append}
+use Rattle.std.proofs.Common.{◌≡◌, ℕ, ◌+◌, ◌≤◌, [], ◌∷◌, ◌++◌, length, sym, refl, ap, ◌∙◌, suc-ne-zero, length-append}
 use Rattle.tariff.specs.Amounts.{Scale, Total, Joined, sum}
 use Rattle.tariff.proofs.Sums.{all_append, sum_one, sum_append}
 

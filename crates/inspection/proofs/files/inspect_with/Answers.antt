@@ -1,8 +1,6 @@
-use Rattle.std.proofs.Common.{ℕ, ◌-◌, List, length, take, vec_items, sym, ap, subst₂, inl}
+use Rattle.std.proofs.Common.{ℕ, ◌-◌, length, take, vec_items, sym, subst₂, inl}
 use native.Mathlib.Nat.{sub-zero}
 use Rattle.scheme.specs.Task.{task_of}
-use Rattle.scheme_file.specs.declared.rows.WorkRow.{WorkRow}
-use Rattle.scheme_file.specs.declared.rows.ItemRow.{ItemRow}
 use Rattle.scheme_file.specs.Contents.{Reads}
 use Rattle.inspection.specs.Files.{work_in, item_in, Inspected}
 use Rattle.inspection.specs.Record.{Recorded}

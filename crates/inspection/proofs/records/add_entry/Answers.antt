@@ -1,4 +1,4 @@
-use Rattle.std.proofs.Common.{◌++◌, vec_items, codes, decimal, ap, ◌∙◌}
+use Rattle.std.proofs.Common.{vec_items, codes, decimal}
 use Rattle.inspection.specs.Record.{behind}
 use Rattle.inspection.proofs.Lines.{three_parts}
 use Rattle.inspection.proofs.records.add_entry.Goals as goal

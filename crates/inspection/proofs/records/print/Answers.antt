@@ -1,4 +1,4 @@
-use Rattle.std.proofs.Common.{◌≡◌, ℕ, List, ◌++◌, vec_items, codes, ap, ◌∙◌}
+use Rattle.std.proofs.Common.{ℕ, List, ◌++◌, vec_items, codes, ap, ◌∙◌}
 use Rattle.sets.specs.declared.Set.{Set}
 use Rattle.sets.specs.Listed.{members, has_bit}
 use Rattle.inspection.specs.Record.{entry, marked, lines, reach_text}

@@ -1,4 +1,4 @@
-use Rattle.std.proofs.Common.{List, length, subst, arith}
+use Rattle.std.proofs.Common.{List, subst, arith}
 use Rattle.scheme.specs.declared.Work.{Work}
 use Rattle.scheme.specs.Placing.{Filled}
 use Rattle.scheme.specs.Task.{task_of}

@@ -1,11 +1,10 @@
 use Rattle.std.proofs.Common.{◌≡◌, ℕ, ◌^◌, ◌<◌, List, sym, ap, subst, arith}
 use Rattle.std.proofs.lemmas.Bool.{eqb-true, eqb-false}
-use Rattle.sets.specs.declared.Set.{Set}
 use Rattle.sets.specs.Member.{Has}
 use Rattle.sets.proofs.Laws.{sub_le}
 use Rattle.scheme.specs.declared.Work.{Work}
 use Rattle.scheme.specs.Reach.{Reach}
-use Rattle.scheme.proofs.Passes.{Towards, towards_more, towards_reach}
+use Rattle.scheme.proofs.Passes.{towards_more, towards_reach}
 use Rattle.scheme.proofs.Scheme.reach.Goals as goal
 
 pub grow-init : goal.grow-init

@@ -1,4 +1,4 @@
-use Rattle.std.proofs.Common.{◌≡◌, ◌-◌, ◌^◌, vec_items}
+use Rattle.std.proofs.Common.{◌-◌, ◌^◌}
 use Rattle.sets.specs.Member.{Has}
 use Rattle.scheme.proofs.Passes.{Towards}
 use Rattle.scheme.proofs.Scheme.reach.Given as goal

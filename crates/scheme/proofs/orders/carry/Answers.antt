@@ -1,4 +1,4 @@
-use Rattle.std.proofs.Common.{ℕ, List, sym, subst, ⊎_elim, arith}
+use Rattle.std.proofs.Common.{ℕ, List, sym, subst, ⊎_elim}
 use Rattle.std.proofs.lemmas.List.{take_more, take_all}
 use Rattle.sets.proofs.Laws.{has_or_not}
 use Rattle.scheme.specs.Orders.{Carried, finished, onward}

@@ -1,7 +1,5 @@
-use Rattle.std.proofs.Common.{ℕ, ◌-◌, sym, subst, arith}
+use Rattle.std.proofs.Common.{arith}
 use lib.Count.{ones-le}
-use Rattle.sets.specs.Listed.{Listed, In}
-use Rattle.sets.specs.Member.{Has}
 use Rattle.sets.proofs.Laws.{listed}
 use Rattle.sets.proofs.Set.len.Goals as goal
 

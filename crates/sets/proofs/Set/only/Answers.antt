@@ -1,4 +1,4 @@
-use Rattle.std.proofs.Common.{sym, arith}
+use Rattle.std.proofs.Common.{arith}
 use Rattle.std.proofs.lemmas.Nat.{one_shl}
 use Rattle.sets.proofs.Laws.{only_members, none_has}
 use Rattle.sets.proofs.Set.only.Goals as goal

@@ -1,4 +1,4 @@
-use Rattle.std.proofs.Common.{drop, sym, refl, ap, ◌∙◌}
+use Rattle.std.proofs.Common.{sym, refl, ap, ◌∙◌}
 use Rattle.std.proofs.lemmas.List.{drop_all}
 use Rattle.inspection.specs.Files.{item_in}
 use Rattle.inspection.proofs.Rows.{item_here, item_later}

@@ -1,6 +1,5 @@
-use Rattle.std.proofs.Common.{◌≡◌, ℕ, ◌+◌, ◌<◌, [], ◌∷◌, ◌++◌, map, length, get_or, take, drop, sym, refl, ap, ◌∙◌, arith}
+use Rattle.std.proofs.Common.{◌≡◌, ◌+◌, ◌<◌, [], ◌∷◌, ◌++◌, map, length, take, drop, sym, ap, ◌∙◌, arith}
 use Rattle.std.proofs.lemmas.List.{drop-drop, drop-set-lt, map_more, take_all, take_more_set}
-use Rattle.sets.specs.declared.Set.{Set}
 use Rattle.planner.specs.Landmarks.{number}
 use Rattle.planner.proofs.types.Planner.landmarks.Goals as goal
 use Rattle.planner.proofs.types.Planner.landmarks.Goals.{in-Some, in_default}
