@@ -6,30 +6,19 @@ use chooser::Chooser;
 use searcher::Searcher;
 use sets::Set;
 use std::alloc::{AllocError, Global};
-use std::test::*;
+use std::process::Abort;
+use std::test::Fail;
 use tabler::Tabler;
 use tariff::Tariff;
 use tariff::hours_first::HoursFirst;
 use tariff::pounds::Pounds;
 
 /// Has a chooser keep some sets in place of those that it kept.
-fn refill<C: Chooser>(chooser: &mut C, kept: &[Set]) -> Result<(), Fail> {
+fn refill<C: Chooser>(rt: &impl Abort, chooser: &mut C, kept: &[Set]) {
     chooser.clear();
     for one in kept {
-        assert!(chooser.add(*one).is_ok(), "a set is turned down");
+        assert!(rt; chooser.add(*one).is_ok(), "a set is turned down");
     }
-    Ok(())
-}
-
-/// Checks what a chooser draws.
-fn agrees<T: Tariff, C: Chooser>(
-    chooser: &C,
-    prices: &[T::Value],
-    bars: Set,
-    answer: Option<Set>,
-) -> Result<(), Fail> {
-    assert_eq!(chooser.draw::<T>(prices, bars), answer);
-    Ok(())
 }
 
 /// A chooser of each kind, which keep the same sets.
@@ -46,23 +35,54 @@ impl Choosers {
         Ok(Choosers { searcher, tabler })
     }
 
-    fn keep(&mut self, kept: &[Set]) -> Result<(), Fail> {
-        refill(&mut self.searcher, kept)?;
-        refill(&mut self.tabler, kept)
+    fn keep(&mut self, rt: &impl Abort, kept: &[Set]) {
+        refill(rt, &mut self.searcher, kept);
+        refill(rt, &mut self.tabler, kept);
     }
 
-    /// Checks that both draw the least set of a small case.
-    fn draw_least<T: Tariff>(&self, prices: &[T::Value], case: &Case) -> Result<(), Fail> {
+    /// Checks that both draw the least set of a small case. A failure names the tariff, the seed and the round.
+    fn draw_least<T: Tariff>(
+        &self,
+        rt: &impl Abort,
+        prices: &[T::Value],
+        case: &Case,
+        tariff: &str,
+        seed: u64,
+        round: u64,
+    ) {
         let bars = case.bars;
         let answer = least_by_trial::<T>(prices, bars, case.kept.as_slice(), case.works);
-        agrees::<T, Searcher>(&self.searcher, prices, bars, answer).note("searcher")?;
-        agrees::<T, Tabler>(&self.tabler, prices, bars, answer).note("tabler")
+        let drawn = self.searcher.draw::<T>(prices, bars);
+        assert_eq!(rt;
+            drawn,
+            answer,
+            "{tariff}, seed {seed}, round {round}: searcher"
+        );
+        let drawn = self.tabler.draw::<T>(prices, bars);
+        assert_eq!(rt;
+            drawn,
+            answer,
+            "{tariff}, seed {seed}, round {round}: tabler"
+        );
     }
 
-    /// Checks that both draw the same set.
-    fn draw_alike<T: Tariff>(&self, prices: &[T::Value], case: &Case) -> Result<(), Fail> {
+    /// Checks that both draw the same set. A failure names the tariff, the seed and whether the prices are equal.
+    fn draw_alike<T: Tariff>(
+        &self,
+        rt: &impl Abort,
+        prices: &[T::Value],
+        case: &Case,
+        tariff: &str,
+        seed: u64,
+        equal: bool,
+    ) {
         let answer = self.searcher.draw::<T>(prices, case.bars);
-        agrees::<T, Tabler>(&self.tabler, prices, case.bars, answer)
+        let drawn = self.tabler.draw::<T>(prices, case.bars);
+        assert_eq!(rt;
+            drawn,
+            answer,
+            "{tariff}, seed {seed}, equal prices: {equal}"
+        );
     }
 }
 
@@ -74,16 +94,12 @@ fn as_a_trial_of_every_set(rt: HostRuntime) -> Result<(), Fail> {
         let mut numbers = Numbers::new(seed);
         for round in 1..=50u64 {
             let case = Case::small(rt.alloc(), &mut numbers)?;
-            choosers.keep(case.kept.as_slice())?;
-            choosers
-                .draw_least::<Pounds>(case.pounds.as_slice(), &case)
-                .note(format_args!("pounds, seed {seed}, round {round}"))?;
-            choosers
-                .draw_least::<HoursFirst>(case.hours.as_slice(), &case)
-                .note(format_args!("hours first, seed {seed}, round {round}"))?;
-            let answer = choosers
-                .tabler
-                .draw::<Pounds>(case.pounds.as_slice(), case.bars);
+            choosers.keep(&rt, case.kept.as_slice());
+            let pounds = case.pounds.as_slice();
+            let hours = case.hours.as_slice();
+            choosers.draw_least::<Pounds>(&rt, pounds, &case, "pounds", seed, round);
+            choosers.draw_least::<HoursFirst>(&rt, hours, &case, "hours first", seed, round);
+            let answer = choosers.tabler.draw::<Pounds>(pounds, case.bars);
             drawn = drawn.saturating_add(u64::from(answer.is_some()));
         }
     }
@@ -101,13 +117,11 @@ fn on_64_works(rt: HostRuntime) -> Result<(), Fail> {
         let mut numbers = Numbers::new(seed);
         for equal in [false, true] {
             let case = Case::wide(rt.alloc(), &mut numbers, equal)?;
-            choosers.keep(case.kept.as_slice())?;
-            choosers
-                .draw_alike::<Pounds>(case.pounds.as_slice(), &case)
-                .note(format_args!("pounds, seed {seed}, equal prices: {equal}"))?;
-            choosers
-                .draw_alike::<HoursFirst>(case.hours.as_slice(), &case)
-                .note(format_args!("hours first, seed {seed}, equal prices: {equal}"))?;
+            choosers.keep(&rt, case.kept.as_slice());
+            let pounds = case.pounds.as_slice();
+            let hours = case.hours.as_slice();
+            choosers.draw_alike::<Pounds>(&rt, pounds, &case, "pounds", seed, equal);
+            choosers.draw_alike::<HoursFirst>(&rt, hours, &case, "hours first", seed, equal);
         }
     }
     Ok(())

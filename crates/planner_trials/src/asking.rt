@@ -4,6 +4,7 @@ use planner::Planner;
 use searcher::Searcher;
 use sets::Set;
 use std::process::Abort;
+use std::test::Fail;
 use tariff::hours_first::HoursFirst;
 use tariff::pounds::Pounds;
 

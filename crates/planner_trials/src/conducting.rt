@@ -4,6 +4,7 @@ use planner::{Planner, Request, ask_both};
 use searcher::Searcher;
 use sets::Set;
 use std::process::Abort;
+use std::test::Fail;
 use tabler::Tabler;
 use tariff::pounds::Pounds;
 

@@ -6,6 +6,7 @@ use scheme_file::{ItemRow, Name, WorkRow};
 use searcher::Searcher;
 use std::alloc::Global;
 use std::process::Abort;
+use std::test::Fail;
 use tariff::pounds::Pounds;
 
 /// The file of two works: 0 gives item 0, 1 needs it and gives item 1; item 1 is wanted.

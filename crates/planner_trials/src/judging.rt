@@ -4,6 +4,7 @@ use planner::{Flaw, Planner, Verdict};
 use searcher::Searcher;
 use sets::Set;
 use std::process::Abort;
+use std::test::Fail;
 use tariff::pounds::Pounds;
 
 /// A verdict as numbers: which, and what it tells.

@@ -4,6 +4,7 @@ use planner::Planner;
 use searcher::Searcher;
 use sets::Set;
 use std::process::Abort;
+use std::test::Fail;
 use tariff::pounds::Pounds;
 
 const HIGH: [u64; 7] = [900, 500, 300, 65_536, 400, 150, 200];

@@ -4,6 +4,7 @@ use chooser::Chooser;
 use planner::Planner;
 use searcher::Searcher;
 use std::process::Abort;
+use std::test::Fail;
 use tabler::Tabler;
 use tariff::pounds::Pounds;
 
