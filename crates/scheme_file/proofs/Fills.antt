@@ -1,6 +1,6 @@
 -- The filling pass: what one more record adds.
 use Rattle.std.proofs.Common.{◌≡◌, ℕ, suc, ◌+◌, ◌^◌, ◌<◌, ◌≤◌, List, [], ◌∷◌, ◌++◌, map, length, get_or, take, drop, set, Ok, Err, Result, sym, refl, ap, ◌∙◌, subst, ap₂, ⊎_elim, add-zero, arith}
-use Rattle.std.specs.List.{AllByRecursion as All}
+use Rattle.std.specs.List.{AllByRecursion}
 use Rattle.std.proofs.ByRecursion.{All-push}
 use Rattle.std.proofs.lemmas.List.{append_assoc, drop-drop, take_at, get_or-drop, length-append, length-drop, length_push, length-take-le, map_push, drop-set-lt, drop-append-le, take_all, take-append-drop, take-append-le}
 use Rattle.sets.specs.declared.Set.{Set}
@@ -130,7 +130,7 @@ item_step {bytes} {at} {p} rows row c l number start len next e =
           (front_more bytes (mark Kind.Head ∷ map item_record xs) (item_record x) next c l.front (ap (λ b. record { kind = Kind.Item; body = b }) is.0) e);
       rising = subst (Rises 0) names (rises_more 0 xs x l.rising (omega (arith, l.least, kept.1.1.0)));
       least = ap (λ n. n + 1) (sym number_is) ∙ sym (above_more 0 xs x) ∙ ap (above 0) names;
-      sound = subst (All SoundItem) names (All-push SoundItem xs x l.sound (record {
+      sound = subst (AllByRecursion SoundItem) names (All-push SoundItem xs x l.sound (record {
         low = omega (arith, kept.1.1.1.1.0);
         name = record { some = omega (arith, kept.0); short = omega (arith, kept.0); text = subst Text (sym name_is) kept.1.1.1.0 };
       }));
@@ -218,12 +218,12 @@ work_step {bytes} {from} {works} {rows} w row c l h r next e =
       record {
         front = subst Front (sym (map_push work_record xs x) ∙ ap (map work_record) same)
             (front_more (drop from bytes) (map work_record xs) (work_record x) next c l.front (ap (λ b. record { kind = Kind.Work; body = b }) is.0) e);
-        sound = subst (All SoundEntry) same (All-push SoundEntry xs x l.sound (record {
+        sound = subst (AllByRecursion SoundEntry) same (All-push SoundEntry xs x l.sound (record {
           pounds = r.pounds_fit;
           hours = r.hours_fit;
           name = record { some = omega (arith, long, kept.0); short = omega (arith, long, kept.0); text = subst Text (sym is.1) kept.1.1.1.0 };
         }));
-        giving = subst (All Giving) same (All-push Giving xs x l.giving (record { needs = h.needs_fit; gives = h.gives_fit; some = some }));
+        giving = subst (AllByRecursion Giving) same (All-push Giving xs x l.giving (record { needs = h.needs_fit; gives = h.gives_fit; some = some }));
         lie = All-push (λ (q : WorkRow). Lies bytes q.name) rows row l.lie (omega (arith, room_here c, is.2, r.start));
         level = length_push works w ∙ ap (λ n. n + 1) l.level ∙ sym (length_push rows row);
         count = ap (λ n. n + 1) l.count ∙ sym (length_push rows row);

@@ -1,6 +1,6 @@
 -- Readable contents keep every rule.
 use Rattle.std.proofs.Common.{◌≡◌, ℕ, ◌+◌, ◌-◌, ◌≤◌, List, [], ◌∷◌, ◌++◌, map, length, take, drop, is_some, Some, Option, sym, refl, ap, ◌∙◌, subst₂, inl, inr, arith}
-use Rattle.std.specs.List.{AllByRecursion as All}
+use Rattle.std.specs.List.{AllByRecursion}
 use Rattle.std.proofs.lemmas.List.{length-append, take_at}
 use Rattle.scheme_file.specs.declared.causes.Cause.{Cause}
 use Rattle.scheme_file.specs.declared.kinds.Kind.{Kind}
@@ -55,7 +55,7 @@ kept_unbroken (r ∷ rs) c kept (inr b) = kept_unbroken rs c kept.1 b.1
 record Leads (p : Place) (rs : List Record) (q : Place) : Type 0 where
   pub on : (rest : List Record) (last : Place) → Goes q rest last → Goes p (rs ++ rest) last
 
-leads_items : (xs : List Named) (p : Place) → p.stage ≡ Items → Rises p.least xs → All SoundItem xs →
+leads_items : (xs : List Named) (p : Place) → p.stage ≡ Items → Rises p.least xs → AllByRecursion SoundItem xs →
     (q : Place) × (q.stage ≡ Items) × (q.works ≡ p.works) × Leads p (map item_record xs) q
 leads_items [] p stage rise sound = (p, stage, refl, record { on = λ rest last h. h })
 leads_items (x ∷ xs) p stage rise sound =
@@ -72,7 +72,7 @@ leads_items (x ∷ xs) p stage rise sound =
     (d.0, d.1, d.2, record { on = λ rest last h. (kept, d.3.on rest last h) })
 
 leads_works : (es : List Entry) (p : Place) → lowest p.stage ≤ 3 → 4 ≤ highest p.stage → p.works + length es ≤ 64 →
-    All SoundEntry es → All Giving es →
+    AllByRecursion SoundEntry es → AllByRecursion Giving es →
     (q : Place) × (lowest q.stage ≤ 3) × (4 ≤ highest q.stage) × Leads p (map work_record es) q
 leads_works [] p low high few sound giving = (p, low, high, record { on = λ rest last h. h })
 leads_works (e ∷ es) p low high few sound giving =

@@ -1,6 +1,6 @@
 -- Bytes, with rows of given lengths, have at most one fault.
 use Rattle.std.proofs.Common.{◌≡◌, ℕ, ◌+◌, ◌<◌, ◌≤◌, ◌⊎◌, List, [], ◌∷◌, ◌++◌, length, sym, refl, ap, ◌∙◌, subst, ap₂, inl, inr, ⊎_elim, arith}
-use Rattle.std.specs.List.{AllByRecursion as All}
+use Rattle.std.specs.List.{AllByRecursion}
 use Rattle.std.proofs.lemmas.List.{append_assoc, length-append, length_push}
 use Rattle.scheme_file.specs.declared.causes.Cause.{Cause}
 use Rattle.scheme_file.specs.declared.causes.Cause.TheVariants.{Rows}
@@ -29,7 +29,7 @@ longer_more : {xs ys : List Record} {t : List ℕ} (r : Record) → Longer xs ys
 longer_more r l = record { next = l.next; more = l.more; rest = l.rest; all = ap (λ x. r ∷ x) l.all; here = l.here }
 
 -- of two lists of records that begin the same bytes one begins the other
-fork : (xs ys : List Record) (s t : List ℕ) → All (λ r. length r.body ≤ 60) xs → All (λ r. length r.body ≤ 60) ys →
+fork : (xs ys : List Record) (s t : List ℕ) → AllByRecursion (λ r. length r.body ≤ 60) xs → AllByRecursion (λ r. length r.body ≤ 60) ys →
     bytes_of xs ++ s ≡ bytes_of ys ++ t → Longer xs ys t ⊎ (Longer ys xs s ⊎ ((xs ≡ ys) × (s ≡ t)))
 fork [] [] s t a b e = inr (inr (refl, e))
 fork (x ∷ xs) [] s t a b e =

@@ -1,6 +1,6 @@
 -- A file has one reading: bytes have one list of records, and records one contents.
 use Rattle.std.proofs.Common.{◌≡◌, ℕ, ◌≤◌, List, [], ◌∷◌, ◌++◌, map, length, get_or, take, drop, sym, refl, ap, ◌∙◌, subst, ap₂, inl, inr, arith}
-use Rattle.std.specs.List.{AllByRecursion as All}
+use Rattle.std.specs.List.{AllByRecursion}
 use Rattle.std.proofs.lemmas.List.{append_assoc, append-nil, drop_at}
 use Rattle.sets.specs.declared.Set.{Set}
 use Rattle.sets.specs.Member.{none}
@@ -25,7 +25,7 @@ use Rattle.scheme_file.proofs.Keeping.{body_encode, code_encode, goes_records, k
 
 -- ---- bytes have one list of records
 
-pub goes_short : (rs : List Record) (p q : Place) → Goes p rs q → All (λ r. length r.body ≤ 60) rs
+pub goes_short : (rs : List Record) (p q : Place) → Goes p rs q → AllByRecursion (λ r. length r.body ≤ 60) rs
 goes_short [] p q e = tt
 goes_short (r ∷ rs) p q good =
     (short_body r.kind (length r.body) good.0.0, goes_short rs (after p r.kind r.body) q good.1)
@@ -42,7 +42,7 @@ encode_same r q s t r-short q-short e =
     (ap₂ (λ k b. record { kind = k; body = b }) kinds bodies, rest)
 
 -- records among the first of a list's bytes are the first of the list
-prefix : (rs before : List Record) (rest : List ℕ) → All (λ r. length r.body ≤ 60) rs → All (λ r. length r.body ≤ 60) before →
+prefix : (rs before : List Record) (rest : List ℕ) → AllByRecursion (λ r. length r.body ≤ 60) rs → AllByRecursion (λ r. length r.body ≤ 60) before →
     bytes_of rs ≡ bytes_of before ++ rest → (left : List Record) × (rs ≡ before ++ left) × (rest ≡ bytes_of left)
 prefix rs [] rest s b e = (rs, refl, sym e)
 prefix [] (q ∷ before) rest s b e = absurd (omega (arith, ap length e))
@@ -130,7 +130,7 @@ entry_back e d s g =
     ∙ ap (λ p. Made x y p (value (le 2 e.hours))) (value_le 2 e.pounds s.pounds)
     ∙ ap (λ h. Made x y e.pounds h) (value_le 2 e.hours s.hours)
 
-works_back : (es : List Entry) (rest : List Record) → All SoundEntry es → All Giving es →
+works_back : (es : List Entry) (rest : List Record) → AllByRecursion SoundEntry es → AllByRecursion Giving es →
     parts_of (map work_record es ++ rest) ≡ ((parts_of rest).0, es ++ (parts_of rest).1, (parts_of rest).2)
 works_back [] rest s g = refl
 works_back (e ∷ es) rest s g =

@@ -1,6 +1,6 @@
 -- Rows to be written: one more of them, and what holds of each.
 use Rattle.std.proofs.Common.{◌≡◌, ℕ, zero, suc, ◌+◌, ◌<◌, ◌≤◌, List, [], ◌∷◌, ◌++◌, map, length, get_or, take, drop, sym, ap, ◌∙◌, subst, arith}
-use Rattle.std.specs.List.{AllByRecursion as All}
+use Rattle.std.specs.List.{AllByRecursion}
 use Rattle.std.proofs.ByRecursion.{All-get_or, All-push}
 use Rattle.std.proofs.lemmas.List.{get_or-map, length-append, length-drop, length-map, length_push, length-take-le, map_push}
 use Rattle.scheme.specs.declared.Work.{Work}
@@ -41,7 +41,7 @@ items_push rows text least r fit e one =
       record {
         lie = All-push (λ (q : ItemRow). Lies text q.name) rows r fit.lie one.lies;
         rising = subst (Rises 0) names (rises_more 0 xs x fit.rising (omega (arith, one.above)));
-        sound = subst (All SoundItem) names (All-push SoundItem xs x fit.sound (record { low = one.low; name = one.name }));
+        sound = subst (AllByRecursion SoundItem) names (All-push SoundItem xs x fit.sound (record { low = one.low; name = one.name }));
       },
       sym (above_more 0 xs x) ∙ ap (above 0) names,
       omega (arith, size_more (map item_record xs) (item_record x), ap (λ l. length (bytes_of l)) recs, name_size text r.name one.lies),
@@ -85,13 +85,13 @@ works_push works rows text w r fit one =
       record {
         level = length_push rows r ∙ ap (λ n. n + 1) fit.level ∙ sym (length_push works w);
         lie = All-push (λ (q : WorkRow). Lies text q.name) rows r fit.lie one.lies;
-        sound = subst (All SoundEntry) same (All-push SoundEntry xs x fit.sound (record { pounds = one.pounds; hours = one.hours; name = one.name }));
+        sound = subst (AllByRecursion SoundEntry) same (All-push SoundEntry xs x fit.sound (record { pounds = one.pounds; hours = one.hours; name = one.name }));
       },
       omega (arith, size_more (map work_record xs) (work_record x), ap (λ l. length (bytes_of l)) recs, name_size text r.name one.lies),
     )
 
 entry_at : (works : List Work) (rows : List WorkRow) (text : List ℕ) (i : ℕ) (d : WorkRow) → i < length rows → length rows ≡ length works →
-    All SoundEntry (entries text works rows) → (w : Work) × SoundEntry (entry_in text w (get_or rows i d))
+    AllByRecursion SoundEntry (entries text works rows) → (w : Work) × SoundEntry (entry_in text w (get_or rows i d))
 entry_at works [] text i d lt level all = absurd (omega arith)
 entry_at [] (r ∷ rows) text i d lt level all = absurd (omega arith)
 entry_at (w ∷ works) (r ∷ rows) text zero d lt level all = (w, all.0)

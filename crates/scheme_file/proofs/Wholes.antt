@@ -1,6 +1,6 @@
 -- Files as a whole: their first and last records, and their size.
 use Rattle.std.proofs.Common.{◌≡◌, ℕ, ◌+◌, ◌*◌, ◌<◌, ◌≤◌, ◌⊎◌, List, [], ◌∷◌, ◌++◌, map, length, drop, sym, refl, ap, ◌∙◌, subst, ap₂, inl, inr, ⊎_elim, mul-suc, arith}
-use Rattle.std.specs.List.{AllByRecursion as All}
+use Rattle.std.specs.List.{AllByRecursion}
 use Rattle.std.proofs.ByRecursion.{All-map, All-weaker}
 use Rattle.std.proofs.lemmas.List.{length-append, length-map, length_push}
 use Rattle.scheme.specs.Task.{Task}
@@ -25,12 +25,12 @@ use Rattle.scheme_file.proofs.Goings.{bytes_append, bytes_more}
 
 -- ---- the size of a file
 
-size_bound : (b : ℕ) (rs : List Record) → All (λ r. length r.body + 4 ≤ b) rs → length (bytes_of rs) ≤ b * length rs
+size_bound : (b : ℕ) (rs : List Record) → AllByRecursion (λ r. length r.body + 4 ≤ b) rs → length (bytes_of rs) ≤ b * length rs
 size_bound b [] h = omega arith
 size_bound b (r ∷ rs) h =
     omega (arith, size_bound b rs h.1, h.0, mul-suc b (length rs), length-append r.body (bytes_of rs))
 
-rises_few : (n : ℕ) (xs : List Named) → n ≤ 64 → Rises n xs → All SoundItem xs → n + length xs ≤ 64
+rises_few : (n : ℕ) (xs : List Named) → n ≤ 64 → Rises n xs → AllByRecursion SoundItem xs → n + length xs ≤ 64
 rises_few n [] small rise sound = omega arith
 rises_few n (x ∷ xs) small rise sound =
     omega (arith, rises_few (x.number + 1) xs (omega (arith, sound.0.low)) rise.1 sound.1, rise.0)

@@ -1,6 +1,6 @@
 -- What a scheme with its rows holds, as the contents of a file.
 use Rattle.std.specs.Prelude.{◌≡◌, ℕ, ◌+◌, ◌^◌, ◌<◌, ◌≤◌, ◌⊎◌, List, [], ◌∷◌, map, length, take, drop}
-use Rattle.std.specs.List.{AllByRecursion as All}
+use Rattle.std.specs.List.{AllByRecursion}
 use Rattle.sets.specs.Member.{none}
 use Rattle.scheme.specs.declared.Work.{Work}
 use Rattle.scheme.specs.Task.{Task}
@@ -46,8 +46,8 @@ Lies text n = n.at + n.len ≤ length text
 -- there is one row for each work, and the names lie in the text
 pub record Rowed (k : Task) (rows : List WorkRow) (items : List ItemRow) (text : List ℕ) : Type 0 where
   pub level : length rows ≡ length k.works
-  pub work_names : All (λ (r : WorkRow). Lies text r.name) rows
-  pub item_names : All (λ (r : ItemRow). Lies text r.name) items
+  pub work_names : AllByRecursion (λ (r : WorkRow). Lies text r.name) rows
+  pub item_names : AllByRecursion (λ (r : ItemRow). Lies text r.name) items
 
 -- ---- which contents a file can have
 
@@ -73,8 +73,8 @@ Rises n (i ∷ items) = (n ≤ i.number) × Rises (i.number + 1) items
 -- what the rows must keep
 pub record Sound (c : Contents) : Type 0 where
   pub rising : Rises 0 c.items
-  pub items : All SoundItem c.items
-  pub works : All SoundEntry c.works
+  pub items : AllByRecursion SoundItem c.items
+  pub works : AllByRecursion SoundEntry c.works
   pub few : length c.works ≤ 64
 
 -- sets of items below 64, and a work that gives some
@@ -86,7 +86,7 @@ pub record Giving (e : Entry) : Type 0 where
 -- What a file can hold.
 pub record Readable (c : Contents) : Type 0 where
   pub sound : Sound c
-  pub giving : All Giving c.works
+  pub giving : AllByRecursion Giving c.works
   pub standing : c.standing.bits < 2 ^ 64
   pub wanted : c.wanted.bits < 2 ^ 64
 

@@ -1,6 +1,6 @@
 -- What the contracts of private functions cite.
 use Rattle.std.specs.Prelude.{◌≡◌, ℕ, ◌+◌, ◌^◌, ◌<◌, ◌≤◌, ◌⊎◌, List, [], ◌∷◌, ◌++◌, map, length, take, drop}
-use Rattle.std.specs.List.{AllByRecursion as All}
+use Rattle.std.specs.List.{AllByRecursion}
 use Rattle.sets.specs.declared.Set.{Set}
 use Rattle.sets.specs.Member.{Has, Members}
 use Rattle.scheme.specs.declared.Work.{Work}
@@ -77,8 +77,8 @@ pub record Listed (bytes : List ℕ) (rows : List ItemRow) (at : ℕ) (p : Place
   pub front : bytes ≡ bytes_of (mark Head ∷ map item_record (map (item_in bytes) rows)) ++ drop at bytes
   pub rising : Rises 0 (map (item_in bytes) rows)
   pub least : p.least ≡ above 0 (map (item_in bytes) rows)
-  pub sound : All SoundItem (map (item_in bytes) rows)
-  pub lie : All (λ (r : ItemRow). Lies bytes r.name) rows
+  pub sound : AllByRecursion SoundItem (map (item_in bytes) rows)
+  pub lie : AllByRecursion (λ (r : ItemRow). Lies bytes r.name) rows
   pub items : p.items ≡ length rows
   pub works : p.works ≡ 0
 
@@ -90,9 +90,9 @@ Itemed bytes rows at n m =
 -- the rows are those of the works from `from` to `at`
 pub record Worked (bytes : List ℕ) (from : ℕ) (works : List Work) (rows : List WorkRow) (at : ℕ) (p : Place) : Type 0 where
   pub front : drop from bytes ≡ bytes_of (map work_record (entries bytes works rows)) ++ drop at bytes
-  pub sound : All SoundEntry (entries bytes works rows)
-  pub giving : All Giving (entries bytes works rows)
-  pub lie : All (λ (r : WorkRow). Lies bytes r.name) rows
+  pub sound : AllByRecursion SoundEntry (entries bytes works rows)
+  pub giving : AllByRecursion Giving (entries bytes works rows)
+  pub lie : AllByRecursion (λ (r : WorkRow). Lies bytes r.name) rows
   pub level : length works ≡ length rows
   pub count : p.works ≡ length rows
   pub few : length rows ≤ 64
@@ -138,14 +138,14 @@ pub record WorkFits (text : List ℕ) (r : WorkRow) : Type 0 where
   pub name : SoundName (bytes_at text r.name)
 
 pub record ItemsFit (items : List ItemRow) (text : List ℕ) : Type 0 where
-  pub lie : All (λ (r : ItemRow). Lies text r.name) items
+  pub lie : AllByRecursion (λ (r : ItemRow). Lies text r.name) items
   pub rising : Rises 0 (map (item_in text) items)
-  pub sound : All SoundItem (map (item_in text) items)
+  pub sound : AllByRecursion SoundItem (map (item_in text) items)
 
 pub record WorksFit (works : List Work) (rows : List WorkRow) (text : List ℕ) : Type 0 where
   pub level : length rows ≡ length works
-  pub lie : All (λ (r : WorkRow). Lies text r.name) rows
-  pub sound : All SoundEntry (entries text works rows)
+  pub lie : AllByRecursion (λ (r : WorkRow). Lies text r.name) rows
+  pub sound : AllByRecursion SoundEntry (entries text works rows)
 
 -- ---- bytes put into others
 

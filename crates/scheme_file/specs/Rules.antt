@@ -1,6 +1,6 @@
 -- The rules that a file keeps, record by record, in the order in which they are tested.
 use Rattle.std.specs.Prelude.{◌≡◌, ℕ, ◌+◌, ◌-◌, ◌<◌, ◌≤◌, true, ◌⊎◌, List, [], ◌∷◌, ◌++◌, length, take, drop, is_some, Some, None, Option, Result, MatchResult, ◌≢◌, slice_index}
-use Rattle.std.specs.List.{AllByRecursion as All}
+use Rattle.std.specs.List.{AllByRecursion}
 use Rattle.scheme.specs.declared.refusals.Refusal.TheVariants.{ItemTooHigh, GivesNothing, SchemeFull}
 use Rattle.scheme_file.specs.declared.kinds.Kind.{Kind}
 use Rattle.scheme_file.specs.declared.kinds.Kind.TheVariants.{Head, Item, Work, Standing, Wanted, End}
@@ -41,7 +41,7 @@ rule c holds = record { cause = c; holds = holds }
 
 -- the bytes of a name
 abbrev pub Text : List ℕ → Type 0
-Text name = All (λ b. (32 ≤ b) × (b ≤ 126)) name
+Text name = AllByRecursion (λ b. (32 ≤ b) × (b ≤ 126)) name
 
 abbrev pub name_in : Kind → List ℕ → List ℕ
 name_in Head body = []
