@@ -62,11 +62,11 @@ pub record OnTheSample (c : SampleCases) : Type 0 where
   pub priorityless : SampleAsked (these (6 ∷ [])) [] out_of_reach []
   -- hours first, from nothing kept: the same landmarks are drawn
   pub hours : Only (Asked hours_first_scale 64 sample hours_and_pounds none []) (in_hours c.hours) (sets c.kept)
-  -- the paper 0, 3, 5, 6 can be carried out, but another order is cheaper
+  -- the paper with the works 0, 3, 5, 6 can be carried out, but another order is cheaper
   pub dear_paper : SampleMarked (0 ∷ 3 ∷ 5 ∷ 6 ∷ []) (dearer c.papers.dearer) (sets c.kept)
-  -- the paper 3 lacks an item at its first place, and draws nothing
+  -- the paper with work 3 alone lacks an item at its first place, and draws nothing
   pub lacking_paper : SampleMarked (3 ∷ []) (flaw (lacking c.papers.place c.papers.lacking)) []
-  -- the paper 1, 2, 3 can be carried out, and an item is missing after it
+  -- the paper with the works 1, 2, 3 can be carried out, and an item is missing after it
   pub missing_paper : SampleMarked (1 ∷ 2 ∷ 3 ∷ []) (flaw (missing c.papers.missing)) []
 
 -- a question in pounds with no bars and from nothing kept: the junction, its prices, the outcome and the landmarks kept after it

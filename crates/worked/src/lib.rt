@@ -47,7 +47,7 @@ pub struct SampleCases {
     pub ductless: Answer<4>,
     /// By hours first, from nothing kept.
     pub hours: HoursAnswer,
-    /// The papers 0, 3, 5, 6; then 3 alone; then 1, 2, 3.
+    /// The papers with the works 0, 3, 5, 6; then 3 alone; then 1, 2, 3.
     pub papers: Verdicts,
 }
 
