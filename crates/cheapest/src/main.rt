@@ -12,7 +12,7 @@ fn main(rt: HostRuntime) -> anyhow::Result<()> {
     let heap = rt.alloc();
     let mut bytes = Vec::new(heap);
     rt.stdin().take(INPUT).read_to_end(&mut bytes)?;
-    let mut planner = Planner::new(Pounds, Searcher::new(heap)?, heap)?;
+    let mut planner = Planner::with_room(Pounds, Searcher::new(heap)?, heap)?;
     let mut page = vec![in heap; 0u8; PAGE]?;
     match report_cheapest(&mut planner, bytes.as_slice(), page.as_mut_slice()) {
         Ok(length) => rt.stdout().write_all(&page[0..length])?,

@@ -13,7 +13,7 @@ use Rattle.rules.specs.Rules.Outcome.{answered, out_of_reach, capacity_spent}
 use Rattle.rules.specs.Calls.{Valid, asked, not_asked, then}
 use Rattle.rules.specs.Calls.Call.{ask}
 use Rattle.planner.specs.Views.{Says}
-use Rattle.planner.specs.Asks.{Asks, Later, Leads, Numbers, Unmoved}
+use Rattle.planner.specs.Asks.{Asks, Later, Leads, Numbers, Unmoved, Within}
 use Rattle.rounds.specs.Checks.{Misput}
 use Rattle.rounds.specs.Steps.{Finds}
 use Rattle.planner.specs.declared.types.Answer.{Answer}
@@ -41,12 +41,13 @@ module _ {V : Type 0} (t : Scale V) (capacity : ℕ) (k : Task) (prices : List V
       (r : Result (Answer V) Refusal) (order : List ℕ) (to : List Set) →
       Numbers t k prices bars (length from) r →
       Later r from order →
+      Within r order →
       Unmoved r kept to →
       Valid t k prices bars (length from) →
       (All (Landmark k) kept →
       (o : Outcome t.Amount) × Says t r order o × Asked t capacity k prices bars kept o to) →
       Asks t capacity k kept prices bars from r order k to
-  by_rule r order to numbers later unmoved valid comes = record {
+  by_rule r order to numbers later within unmoved valid comes = record {
     same = refl;
     since = λ calls since. then since (asked valid (comes (since_marks since)).2);
     promised = λ calls since _.
@@ -57,10 +58,14 @@ module _ {V : Type 0} (t : Scale V) (capacity : ℕ) (k : Task) (prices : List V
           said = a.1;
           ruled = a.2;
           right = asked_right t k prices bars valid.0 a.2 marks;
-          only = λ o other b. asked_unique b a.2;
         };
+    alone = λ calls since _ o other b.
+        let a = comes (since_marks since) in
+        let same = asked_unique b a.2 in
+        (subst (Says t r order) (sym same.0) a.1, same.1);
     numbers = numbers;
     later = later;
+    within = within;
     unmoved = unmoved;
   }
 
@@ -69,8 +74,10 @@ module _ {V : Type 0} (t : Scale V) (capacity : ℕ) (k : Task) (prices : List V
     same = refl;
     since = λ calls since. then since (not_asked (misput_not_valid t k prices bars (length from) e wrong));
     promised = λ calls since valid. absurd (misput_not_valid t k prices bars (length from) e wrong valid);
+    alone = λ calls since valid o other b. absurd (misput_not_valid t k prices bars (length from) e wrong valid);
     numbers = inl wrong;
     later = refl;
+    within = tt;
     unmoved = inr refl;
   }
 
@@ -78,12 +85,12 @@ module _ {V : Type 0} (t : Scale V) (capacity : ℕ) (k : Task) (prices : List V
     pub asked_refused :
         (e : Refusal) (to : List Set) → Finds t capacity k prices bars kept (Err e) to → Asks t capacity k kept prices bars from (Err e) from k to
     asked_refused e to (inl p) =
-        by_rule (Err e) from to (inr (inl (p.0, valid, p.1))) refl (inr p.2) valid
+        by_rule (Err e) from to (inr (inl (p.0, valid, p.1))) refl tt (inr p.2) valid
         (λ marks.
         let Beyond : List Set → Type 0 = λ x. Asked t capacity k prices bars kept out_of_reach x in
         (out_of_reach, inl (p.0, refl), subst Beyond (sym p.2) (beyond p.1)))
     asked_refused e to (inr p) =
-        by_rule (Err e) from to (inr (inr (p.0, valid, p.1))) refl (inl p.0) valid
+        by_rule (Err e) from to (inr (inr (p.0, valid, p.1))) refl tt (inl p.0) valid
         (λ marks.
         let settled = p.2.1 (record { fair = valid.0; enough = p.1; marks = marks }) in
         (capacity_spent, inr (p.0, refl), spent p.1 settled))
@@ -95,7 +102,7 @@ module _ {V : Type 0} (t : Scale V) (capacity : ℕ) (k : Task) (prices : List V
         (SetCapped t prices f.set → t.amount total ≡ set_cost t prices f.set) →
         Asks t capacity k kept prices bars from (Ok (record { length = n; total = total; rounds = f.rounds })) order k to
     asked_answered f n total order to finds filled cost =
-        by_rule (Ok (record { length = n; total = total; rounds = f.rounds })) order to (valid, finds.0) (filled.within, filled.later) tt valid
+        by_rule (Ok (record { length = n; total = total; rounds = f.rounds })) order to (valid, finds.0) filled.later filled.within tt valid
         (λ marks.
         let settled = finds.1 (record { fair = valid.0; enough = finds.0; marks = marks }) in
         let least = (settled_based t k prices bars settled marks).least in

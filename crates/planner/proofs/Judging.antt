@@ -15,7 +15,7 @@ use Rattle.rules.specs.Marks.Verdict.{flaw, dearer, cheapest}
 use Rattle.rules.specs.Calls.{Fair, Readable, marked, not_marked, then}
 use Rattle.rounds.specs.Steps.{Finds}
 use Rattle.rounds.specs.Checks.{Illegible}
-use Rattle.planner.specs.Papers.{flaw_of, Beside, Compares, Judged, MarkNumbers, Marks, SaysMarking, Stated, Unasked}
+use Rattle.planner.specs.Papers.{flaw_of, Beside, Compares, Judged, MarkNumbers, Marks, SaysMarking, Stated, StatedBy, Unasked}
 use Rattle.planner.specs.declared.marking.Flaw.{Flaw}
 use Rattle.planner.specs.declared.marking.Verdict.{Verdict}
 use Rattle.planner.specs.declared.marking.Verdict.TheVariants.{Flawed as Faulty, Dearer, Cheapest}
@@ -58,12 +58,13 @@ module _ {V : Type 0} (t : Scale V) (capacity : ℕ) (k : Task) (prices : List V
   by_rule :
       (r : Result (Verdict V) Refusal) (to : List Set) →
       MarkNumbers t k prices bars paper r →
+      StatedBy t k prices bars paper r →
       Unasked r kept to →
       Readable t k prices bars paper →
       (All (Landmark k) kept →
       (m : Marking t.Amount) × SaysMarking t r m × Marked t capacity k prices bars paper kept m to) →
       Marks t capacity k kept prices bars paper r k to
-  by_rule r to numbers unmoved readable comes = record {
+  by_rule r to numbers stated unmoved readable comes = record {
     same = refl;
     since = λ calls since. then since (marked readable (comes (since_marks since)).2);
     promised = λ calls since _.
@@ -74,9 +75,13 @@ module _ {V : Type 0} (t : Scale V) (capacity : ℕ) (k : Task) (prices : List V
           said = m.1;
           ruled = m.2;
           right = marked_judged readable.0 m.2 marks;
-          only = λ other after b. marked_unique b m.2;
         };
+    alone = λ calls since _ other after b.
+        let m = comes (since_marks since) in
+        let same = marked_unique b m.2 in
+        (subst (SaysMarking t r) (sym same.0) m.1, same.1);
     numbers = numbers;
+    stated = stated;
     unmoved = unmoved;
   }
 
@@ -92,19 +97,21 @@ module _ {V : Type 0} (t : Scale V) (capacity : ℕ) (k : Task) (prices : List V
     same = refl;
     since = λ calls since. then since (not_marked (not_readable e wrong));
     promised = λ calls since readable. absurd (not_readable e wrong readable);
+    alone = λ calls since readable m other b. absurd (not_readable e wrong readable);
     numbers = inl wrong;
+    stated = tt;
     unmoved = inr refl;
   }
 
   module _ (readable : Readable t k prices bars paper) where
     pub marked_flawed : (f : Flaw) → Flawed k bars 0 k.standing paper (flaw_of f) → Marks t capacity k kept prices bars paper (Ok (Faulty f)) k kept
-    marked_flawed f h = by_rule (Ok (Faulty f)) kept (readable, h) refl readable (λ marks. (given (flaw (flaw_of f)), refl, flawed h))
+    marked_flawed f h = by_rule (Ok (Faulty f)) kept readable h refl readable (λ marks. (given (flaw (flaw_of f)), refl, flawed h))
 
     module _ (plan : Plan k bars paper) where
       pub marked_refused : (e : Refusal) (to : List Set) → Finds t capacity k prices bars kept (Err e) to → Marks t capacity k kept prices bars paper (Err e) k to
       marked_refused e to (inl p) = absurd (p.1 (sufficient_of_plan k bars plan))
       marked_refused e to (inr p) =
-          by_rule (Err e) to (inr (p.0, readable, plan)) (inl p.0) readable
+          by_rule (Err e) to (inr (p.0, readable, plan)) tt (inl p.0) readable
           (λ marks.
           let settled = p.2.1 (record { fair = readable.0; enough = p.1; marks = marks }) in
           (refused, (p.0, refl), undecided plan (spent p.1 settled)))
@@ -120,7 +127,7 @@ module _ {V : Type 0} (t : Scale V) (capacity : ℕ) (k : Task) (prices : List V
           Marks t capacity k kept prices bars paper (Ok v) k to
       marked_compared f v to finds compares =
           let beside = compares readable.1 (all_capped paper) (λ w y. price_capped t k prices bars readable.0 w) in
-          by_rule (Ok v) to (readable, stated v beside) (unasked v beside) readable (λ marks. judge marks v beside)
+          by_rule (Ok v) to readable (stated v beside) (unasked v beside) readable (λ marks. judge marks v beside)
         where
           stated : (v : Verdict V) → Beside t prices f.set paper v → Stated t k prices bars paper v
           stated (Faulty x) b = absurd b

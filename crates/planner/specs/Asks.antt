@@ -14,10 +14,15 @@ use Rattle.rounds.specs.Checks.{Misput}
 use Rattle.planner.specs.Views.{Says}
 use Rattle.planner.specs.declared.types.Answer.{Answer}
 
--- the order has as many places as the answer says, places behind it stay, and all stay on a refusal
+-- places behind the answer stay, and all stay on a refusal
 abbrev pub Later : {V : Type 0} → Result (Answer V) Refusal → List ℕ → List ℕ → Type 0
-Later (Ok a) from to = (a.length ≤ length to) × (drop a.length to ≡ drop a.length from)
+Later (Ok a) from to = drop a.length to ≡ drop a.length from
 Later (Err e) from to = to ≡ from
+
+-- the order has as many places as the answer says
+abbrev pub Within : {V : Type 0} → Result (Answer V) Refusal → List ℕ → Type 0
+Within (Ok a) to = a.length ≤ length to
+Within (Err e) to = Unit {0}
 
 -- the kept sets stay on a refusal, unless the capacity is spent
 abbrev pub Unmoved : {X : Type 0} → Result X Refusal → List Set → List Set → Type 0
@@ -39,16 +44,12 @@ module _ {V : Type 0} (t : Scale V) (capacity : ℕ) where
   Leads k kept c after to =
       (calls : List (Call V)) → Since t capacity calls k kept → Since t capacity (calls ++ (c ∷ [])) after to
 
-  -- What a valid question comes to: the one outcome of the rules, which the result and the order list say, and which is right.
+  -- What a valid question comes to: an outcome of the rules, which the result and the order list say, and which is right.
   pub record ComesTo (k : Task) (prices : List V) (bars : Set) (kept : List Set) (r : Result (Answer V) Refusal) (order : List ℕ) (to : List Set) : Type 0 where
     pub outcome : Outcome t.Amount
     pub said : Says t r order outcome
     pub ruled : Asked t capacity k prices bars kept outcome to
     pub right : Right t k prices bars outcome
-    pub only :
-        (o : Outcome t.Amount) (other : List Set) →
-        Asked t capacity k prices bars kept o other →
-        (o ≡ outcome) × (other ≡ to)
 
   -- for every list of calls that led here
   abbrev pub Promised : Task → List V → Set → ℕ → List Set → Result (Answer V) Refusal → List ℕ → List Set → Type 0
@@ -58,17 +59,38 @@ module _ {V : Type 0} (t : Scale V) (capacity : ℕ) where
       Valid t k prices bars places →
       ComesTo k prices bars kept r order to
 
+  -- whatever the rules give, the result says it: there is one outcome
+  abbrev pub PromisedAlone : Task → List V → Set → ℕ → List Set → Result (Answer V) Refusal → List ℕ → List Set → Type 0
+  PromisedAlone k prices bars places kept r order to =
+      (calls : List (Call V)) →
+      Since t capacity calls k kept →
+      Valid t k prices bars places →
+      (o : Outcome t.Amount) (other : List Set) →
+      Asked t capacity k prices bars kept o other →
+      Says t r order o × (other ≡ to)
+
   -- What a question promises of its result, of the order list before and after it, and of what is held and kept before and after it.
   pub record Asks (k : Task) (kept : List Set) (prices : List V) (bars : Set) (from : List ℕ) (r : Result (Answer V) Refusal) (order : List ℕ) (after : Task) (to : List Set) : Type 0 where
     pub same : after ≡ k
     pub numbers : Numbers t k prices bars (length from) r
     pub later : Later r from order
+    pub within : Within r order
     pub unmoved : Unmoved r kept to
     pub since : Leads k kept (ask prices bars (length from)) after to
     pub promised : Promised k prices bars (length from) kept r order to
+    pub alone : PromisedAlone k prices bars (length from) kept r order to
 
-  -- After a list of calls, a question: no premise is left. What was held and kept before the question is what the calls lead to, and nothing else is.
-  pub record Conducted (calls : List (Call V)) (prices : List V) (bars : Set) (from : List ℕ) (r : Result (Answer V) Refusal) (order : List ℕ) (after : Task) (to : List Set) : Type 0 where
+  -- After a list of calls, a question: no premise is left.
+  pub record Conducted (calls : List (Call V)) (prices : List V) (bars : Set) (places : ℕ) (r : Result (Answer V) Refusal) (order : List ℕ) (after : Task) (to : List Set) : Type 0 where
+    pub k : Task
+    pub kept : List Set
+    pub since : Since t capacity calls k kept
+    pub numbers : Numbers t k prices bars places r
+    pub promised : Valid t k prices bars places → ComesTo k prices bars kept r order to
+    pub later : Since t capacity (calls ++ (ask prices bars places ∷ [])) after to
+
+  -- After a list of calls, a question: what was held and kept before it is what the calls lead to, and nothing else is.
+  pub record ConductedAlone (calls : List (Call V)) (prices : List V) (bars : Set) (from : List ℕ) (r : Result (Answer V) Refusal) (order : List ℕ) (after : Task) (to : List Set) : Type 0 where
     pub k : Task
     pub kept : List Set
     pub since : Since t capacity calls k kept

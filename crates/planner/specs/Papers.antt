@@ -79,9 +79,14 @@ module _ {V : Type 0} (t : Scale V) where
   Stated k prices bars paper (Dearer v) = Plan k bars paper × (t.amount v ≡ order_cost t prices paper)
   Stated k prices bars paper (Cheapest v) = Plan k bars paper × (t.amount v ≡ order_cost t prices paper)
 
+  -- what a result says of the paper alone, where it is a verdict
+  abbrev pub StatedBy : Task → List V → Set → List ℕ → Result (Verdict V) Refusal → Type 0
+  StatedBy k prices bars paper (Ok v) = Stated k prices bars paper v
+  StatedBy k prices bars paper (Err e) = Unit {0}
+
   -- A verdict comes just from a readable paper; and which refusal comes when.
   abbrev pub MarkNumbers : Task → List V → Set → List ℕ → Result (Verdict V) Refusal → Type 0
-  MarkNumbers k prices bars paper (Ok v) = Readable t k prices bars paper × Stated k prices bars paper v
+  MarkNumbers k prices bars paper (Ok v) = Readable t k prices bars paper
   MarkNumbers k prices bars paper (Err e) =
       Illegible t k prices bars paper e ⊎ ((number_of e ≡ 10) × Readable t k prices bars paper × Plan k bars paper)
 
@@ -93,16 +98,12 @@ Unasked (Ok (Cheapest v)) kept to = Unit {0}
 Unasked (Err e) kept to = (number_of e ≡ 10) ⊎ (to ≡ kept)
 
 module _ {V : Type 0} (t : Scale V) (capacity : ℕ) where
-  -- what a readable paper comes to: the one marking of the rules, which the result says, and which is right
+  -- what a readable paper comes to: a marking of the rules, which the result says, and which is right
   pub record ComesToMarking (k : Task) (prices : List V) (bars : Set) (paper : List ℕ) (kept : List Set) (r : Result (Verdict V) Refusal) (to : List Set) : Type 0 where
     pub marking : Marking t.Amount
     pub said : SaysMarking t r marking
     pub ruled : Marked t capacity k prices bars paper kept marking to
     pub right : Judged t k prices bars paper marking
-    pub only :
-        (m : Marking t.Amount) (other : List Set) →
-        Marked t capacity k prices bars paper kept m other →
-        (m ≡ marking) × (other ≡ to)
 
   -- for every list of calls that led here
   abbrev pub MarksPromised : Task → List V → Set → List ℕ → List Set → Result (Verdict V) Refusal → List Set → Type 0
@@ -112,10 +113,22 @@ module _ {V : Type 0} (t : Scale V) (capacity : ℕ) where
       Readable t k prices bars paper →
       ComesToMarking k prices bars paper kept r to
 
+  -- whatever the rules give, the result says it: there is one marking
+  abbrev pub MarksPromisedAlone : Task → List V → Set → List ℕ → List Set → Result (Verdict V) Refusal → List Set → Type 0
+  MarksPromisedAlone k prices bars paper kept r to =
+      (calls : List (Call V)) →
+      Since t capacity calls k kept →
+      Readable t k prices bars paper →
+      (m : Marking t.Amount) (other : List Set) →
+      Marked t capacity k prices bars paper kept m other →
+      SaysMarking t r m × (other ≡ to)
+
   -- What a marking promises of its result, and of what is held and kept before and after it.
   pub record Marks (k : Task) (kept : List Set) (prices : List V) (bars : Set) (paper : List ℕ) (r : Result (Verdict V) Refusal) (after : Task) (to : List Set) : Type 0 where
     pub same : after ≡ k
     pub numbers : MarkNumbers t k prices bars paper r
+    pub stated : StatedBy t k prices bars paper r
     pub unmoved : Unasked r kept to
     pub since : Leads t capacity k kept (mark prices bars paper) after to
     pub promised : MarksPromised k prices bars paper kept r to
+    pub alone : MarksPromisedAlone k prices bars paper kept r to

@@ -1,6 +1,7 @@
 //! A list of calls on a planner newly opened, and then a question.
+ghost use Rattle.std.specs.Prelude.{length};
 ghost use Rattle.scheme.specs.Task.{task_of};
-ghost use Rattle.planner.specs.Asks.{Conducted, Leads};
+ghost use Rattle.planner.specs.Asks.{Conducted, ConductedAlone, Later, Leads};
 ghost use Rattle.rules.specs.Calls.Call.{ask as to_ask};
 ghost use Rattle.planner.specs.Views.{call_of, calls_of};
 
@@ -20,7 +21,9 @@ impl<T: Tariff, C: Chooser> Planner<T, C> {
         bars: Set,
         order: &mut [u8],
     ) -> Result<Answer<T::Value>, Refusal>
-        ensures { Conducted T.Tariff.scale C.Chooser.room (calls_of requests.now) prices.now bars order.old result order.new (task_of self.new.scheme) (C.Chooser.kept self.new.chooser) }
+        ensures conducted { Conducted T.Tariff.scale C.Chooser.room (calls_of requests.now) prices.now bars (length order.old) result order.new (task_of self.new.scheme) (C.Chooser.kept self.new.chooser) }
+        ensures later { Later result order.old order.new }
+        ensures alone { ConductedAlone T.Tariff.scale C.Chooser.room (calls_of requests.now) prices.now bars order.old result order.new (task_of self.new.scheme) (C.Chooser.kept self.new.chooser) }
     {
         self.open();
         for request in requests {

@@ -13,20 +13,31 @@ use std::alloc::{AllocError, Global};
 use tariff::Tariff;
 
 impl<T: Tariff, C: Chooser> Planner<T, C> {
+    /// A planner newly opened, above a scheme and a chooser that are emptied.
+    pub fn new(tariff: T, scheme: Scheme, chooser: C) -> Planner<T, C>
+        ensures held { task_of result.scheme ≡ opened }
+        ensures kept { C.Chooser.kept result.chooser ≡ [] }
+    {
+        let mut scheme = scheme;
+        let mut chooser = chooser;
+        scheme.open();
+        chooser.clear();
+        Planner {
+            tariff,
+            scheme,
+            chooser,
+        }
+    }
+
     /// A planner newly opened, with places for all works reserved, above a chooser that is emptied.
-    pub fn new(tariff: T, mut chooser: C, heap: Global) -> Result<Planner<T, C>, AllocError>
+    pub fn with_room(tariff: T, chooser: C, heap: Global) -> Result<Planner<T, C>, AllocError>
     where
         T: Drop,
         C: Drop,
         ensures { IfOk result (λ p. (task_of p.scheme ≡ opened) × (C.Chooser.kept p.chooser ≡ [])) }
     {
         let scheme = Scheme::new(heap)?;
-        chooser.clear();
-        Ok(Planner {
-            tariff,
-            scheme,
-            chooser,
-        })
+        Ok(Planner::new(tariff, scheme, chooser))
     }
 
     /// Opens the planner anew: no works, nothing standing, nothing wanted, no landmarks.

@@ -1,10 +1,11 @@
 //! What a planner holds: its scheme, and the landmarks that it keeps.
-ghost use Rattle.std.specs.Prelude.{◌≡◌};
+ghost use Rattle.std.specs.Prelude.{◌≡◌, ◌<◌, ◌≤◌, length, MatchOption, slice_index_or};
 ghost use Rattle.planner.specs.Landmarks.{Copies};
 
 use crate::types::Planner;
 use chooser::Chooser;
 use scheme::{Refusal, Scheme};
+use sets::Set;
 
 impl<T, C: Chooser> Planner<T, C> {
     /// The scheme that the planner is above.
@@ -14,9 +15,23 @@ impl<T, C: Chooser> Planner<T, C> {
         &self.scheme
     }
 
+    /// How many landmarks are kept.
+    pub fn landmarks(&self) -> usize
+        ensures { result ≡ length (C.Chooser.kept self.now.chooser) }
+    {
+        self.chooser.count()
+    }
+
+    /// The kept landmark at a place, counted from 0.
+    pub fn landmark(&self, place: usize) -> Option<Set>
+        ensures { MatchOption result (length (C.Chooser.kept self.now.chooser) ≤ place) (λ s. (place < length (C.Chooser.kept self.now.chooser)) × (s ≡ slice_index_or (C.Chooser.kept self.now.chooser) place s)) }
+    {
+        self.chooser.read(place)
+    }
+
     /// Copies the kept landmarks, in order, into the first places, each as the number of its set, and answers how many there are. Later
     /// places stay.
-    pub fn landmarks(&self, places: &mut [u64]) -> Result<usize, Refusal>
+    pub fn copy_landmarks(&self, places: &mut [u64]) -> Result<usize, Refusal>
         ensures { Copies (C.Chooser.kept self.now.chooser) places.old result places.new }
     {
         let count = self.chooser.count();

@@ -39,7 +39,7 @@ fn expect_by_hours(
 #[test]
 fn hours_first(rt: HostRuntime) -> Result<(), Fail> {
     let heap = rt.alloc();
-    let mut planner = Planner::new(HoursFirst, Searcher::new(heap)?, heap)?;
+    let mut planner = Planner::with_room(HoursFirst, Searcher::new(heap)?, heap)?;
     enter_works(&mut planner)?;
     want(&rt, &mut planner, 4)?;
     expect_by_hours(&rt, &mut planner)

@@ -69,7 +69,7 @@ fn agree(
 fn two_choosers(rt: HostRuntime) -> Result<(), Fail> {
     let heap = rt.alloc();
     let mut one = junction(&rt, heap)?;
-    let mut other = Planner::new(Pounds, Tabler::new(heap)?, heap)?;
+    let mut other = Planner::with_room(Pounds, Tabler::new(heap)?, heap)?;
     enter_works(&mut other)?;
     want(&rt, &mut other, 4)?;
     agree(&rt, &mut one, &mut other, Set::empty())?;

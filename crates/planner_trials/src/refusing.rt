@@ -56,7 +56,7 @@ fn markings(rt: HostRuntime) -> Result<(), Fail> {
 /// Copies the kept landmarks into a list of four places, and checks that it is refused and stays.
 fn uncopied(rt: &impl Abort, planner: &Planner<Pounds, Searcher>) -> Result<(), Fail> {
     let mut four = [77u64; 4];
-    match planner.landmarks(&mut four) {
+    match planner.copy_landmarks(&mut four) {
         Ok(_) => return Err(Fail::new("copied")),
         Err(refusal) => assert_eq!(rt; refusal.number(), 8),
     }

@@ -33,7 +33,7 @@ fn enter_apart<C: Chooser>(
 #[test]
 fn one_more_landmark_than_the_capacity(rt: HostRuntime) -> Result<(), Fail> {
     let heap = rt.alloc();
-    let mut planner = Planner::new(Pounds, Tabler::new(heap)?, heap)?;
+    let mut planner = Planner::with_room(Pounds, Tabler::new(heap)?, heap)?;
     enter_apart(&rt, &mut planner, &NUMBERS[0..12])?;
     expect(&rt, &mut planner, &[1; 12], 0, &NUMBERS[0..12], 12, 13)?;
     enter(&mut planner, 4096)?;
@@ -53,7 +53,7 @@ fn room_for_it(rt: HostRuntime) -> Result<(), Fail> {
 #[test]
 fn a_run_that_starts_again(rt: HostRuntime) -> Result<(), Fail> {
     let heap = rt.alloc();
-    let mut planner = Planner::new(Pounds, Tabler::new(heap)?, heap)?;
+    let mut planner = Planner::with_room(Pounds, Tabler::new(heap)?, heap)?;
     enter_apart(&rt, &mut planner, &NUMBERS[0..12])?;
     enter(&mut planner, 8190)?;
     expect(&rt, &mut planner, &LAST_DEAR, 0, &NUMBERS[0..12], 12, 13)?;

@@ -50,7 +50,7 @@ pub fn junction(rt: &impl Abort, heap: Global) -> Result<Planner<Pounds, Searche
 
 /// A planner newly opened under pounds, above a searcher.
 pub fn opened(heap: Global) -> Result<Planner<Pounds, Searcher>, Fail> {
-    Ok(Planner::new(Pounds, Searcher::new(heap)?, heap)?)
+    Ok(Planner::with_room(Pounds, Searcher::new(heap)?, heap)?)
 }
 
 /// Wants an item that was not wanted.
@@ -132,7 +132,7 @@ pub fn expect_kept<T, C: Chooser>(
     kept: &[u64],
 ) -> Result<(), Fail> {
     let mut places = [77u64; 80];
-    assert_eq!(rt; planner.landmarks(&mut places)?, kept.len());
+    assert_eq!(rt; planner.copy_landmarks(&mut places)?, kept.len());
     for (place, number) in places.iter().enumerate() {
         assert_eq!(rt; *number, kept.get(place).copied().unwrap_or(77));
     }

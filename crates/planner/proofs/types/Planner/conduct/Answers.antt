@@ -1,5 +1,5 @@
 use Rattle.scheme.specs.Task.{task_of}
-use Rattle.planner.proofs.Histories.{since_opened, since_more, conducted_all}
+use Rattle.planner.proofs.Histories.{since_opened, since_more, conducted_all, conducted_alone}
 use Rattle.planner.proofs.types.Planner.conduct.Goals as goal
 
 pub loop-request-init : goal.loop-request-init
@@ -16,7 +16,14 @@ loop-request-preserved g c =
 
 pub returns : goal.returns
 returns g c =
-    conducted_all g.T.Tariff.scale g.C.Chooser.room c.args.requests.now c.loop-request.request-index
+    let all =
+    conducted_alone g.T.Tariff.scale g.C.Chooser.room c.args.requests.now c.loop-request.request-index
     (task_of c.loop-request.self.scheme) (task_of c.ask.new.self.scheme) (g.C.Chooser.kept c.loop-request.self.chooser)
     (g.C.Chooser.kept c.ask.new.self.chooser) c.args.prices.now c.args.bars c.args.order.now c.ask.result
     c.ask.new.order c.loop-request-test.false c.loop-request.invariant c.ask.ensures
+    in
+    record {
+      conducted = conducted_all g.T.Tariff.scale g.C.Chooser.room all;
+      later = all.asks.later;
+      alone = all;
+    }

@@ -1,6 +1,6 @@
 use Rattle.std.proofs.Common.{◌≡◌, map, take, drop}
 use Rattle.planner.specs.Landmarks.{number}
-use Rattle.planner.proofs.types.Planner.landmarks.Given as goal
+use Rattle.planner.proofs.types.Planner.copy_landmarks.Given as goal
 
 abbrev pub invariant-loop-place : goal.invariant-loop-place
 invariant-loop-place g l =

@@ -1,8 +1,8 @@
 use Rattle.std.proofs.Common.{◌≡◌, ◌+◌, ◌<◌, [], ◌∷◌, ◌++◌, map, length, take, drop, sym, ap, ◌∙◌, arith}
 use Rattle.std.proofs.lemmas.List.{drop-drop, drop-set-lt, map_more, take_all, take_more_set}
 use Rattle.planner.specs.Landmarks.{number}
-use Rattle.planner.proofs.types.Planner.landmarks.Goals as goal
-use Rattle.planner.proofs.types.Planner.landmarks.Goals.{in-Some, in_default}
+use Rattle.planner.proofs.types.Planner.copy_landmarks.Goals as goal
+use Rattle.planner.proofs.types.Planner.copy_landmarks.Goals.{in-Some, in_default}
 
 pub loop-place-preserved : goal.loop-place-preserved
 loop-place-preserved g c =
