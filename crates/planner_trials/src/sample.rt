@@ -132,9 +132,15 @@ pub fn expect_kept<T, C: Chooser>(
     kept: &[u64],
 ) -> Result<(), Fail> {
     let mut places = [77u64; 80];
+    assert_eq!(rt; planner.landmarks(), kept.len());
     assert_eq!(rt; planner.copy_landmarks(&mut places)?, kept.len());
     for (place, number) in places.iter().enumerate() {
-        assert_eq!(rt; *number, kept.get(place).copied().unwrap_or(77));
+        let wanted = kept.get(place).copied();
+        assert_eq!(rt; *number, wanted.unwrap_or(77));
+        assert_eq!(rt;
+            planner.landmark(place),
+            wanted.map(|bits| Set::from_bits(bits))
+        );
     }
     Ok(())
 }
