@@ -1,8 +1,10 @@
 //! Marking a candidate's order.
-ghost use Rattle.std.specs.Prelude.{◌<◌, length};
+ghost use Rattle.std.specs.Prelude.{◌≡◌, ◌<◌, length};
 ghost use Rattle.scheme.specs.Task.{task_of};
 ghost use Rattle.tariff.specs.Amounts.{All};
-ghost use Rattle.planner.specs.Papers.{task_from, FirstFlaw, Compares, Marks};
+ghost use Rattle.rules.specs.Calls.Call.{mark as to_mark};
+ghost use Rattle.planner.specs.Asks.{Leads};
+ghost use Rattle.planner.specs.Papers.{task_from, FirstFlaw, Compares, MarkNumbers, MarksPromised, MarksPromisedAlone, StatedBy, Unasked};
 
 use crate::types::Planner;
 use chooser::{Chooser, order_cost, set_cost};
@@ -38,7 +40,13 @@ impl<T: Tariff, C: Chooser> Planner<T, C> {
         bars: Set,
         paper: &[u8],
     ) -> Result<Verdict<T::Value>, Refusal>
-        ensures { Marks T.Tariff.scale C.Chooser.room (task_of self.old.scheme) (C.Chooser.kept self.old.chooser) prices.now bars paper.now result (task_of self.new.scheme) (C.Chooser.kept self.new.chooser) }
+        ensures same { task_of self.new.scheme ≡ task_of self.old.scheme }
+        ensures since { Leads T.Tariff.scale C.Chooser.room (task_of self.old.scheme) (C.Chooser.kept self.old.chooser) (to_mark prices.now bars paper.now) (task_of self.new.scheme) (C.Chooser.kept self.new.chooser) }
+        ensures promised { MarksPromised T.Tariff.scale C.Chooser.room (task_of self.old.scheme) prices.now bars paper.now (C.Chooser.kept self.old.chooser) result (C.Chooser.kept self.new.chooser) }
+        ensures alone { MarksPromisedAlone T.Tariff.scale C.Chooser.room (task_of self.old.scheme) prices.now bars paper.now (C.Chooser.kept self.old.chooser) result (C.Chooser.kept self.new.chooser) }
+        ensures numbers { MarkNumbers T.Tariff.scale (task_of self.old.scheme) prices.now bars paper.now result }
+        ensures stated { StatedBy T.Tariff.scale (task_of self.old.scheme) prices.now bars paper.now result }
+        ensures unmoved { Unasked result (C.Chooser.kept self.old.chooser) (C.Chooser.kept self.new.chooser) }
     {
         check_paper::<T>(&self.scheme, prices, bars, paper)?;
         if let Some(flaw) = flaw_of(&self.scheme, bars, paper) {

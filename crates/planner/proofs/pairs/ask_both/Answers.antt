@@ -5,8 +5,8 @@ use Rattle.planner.proofs.pairs.ask_both.Goals as goal
 
 pub returns : goal.returns
 returns g c = record {
-  first = c.ask.ensures;
-  other = c.ask-2.ensures;
+  first = let e = c.ask.ensures in record { same = e.same; numbers = e.numbers; later = e.later; within = e.within; unmoved = e.unmoved; since = e.since; promised = e.promised; alone = e.alone };
+  other = let e = c.ask-2.ensures in record { same = e.same; numbers = e.numbers; later = e.later; within = e.within; unmoved = e.unmoved; since = e.since; promised = e.promised; alone = e.alone };
   agreed =
       both_agree g.T.Tariff.scale g.C.Chooser.room g.D.Chooser.room (task_of c.args.one.now.scheme)
       (task_of c.args.other.now.scheme) (g.C.Chooser.kept c.args.one.now.chooser)

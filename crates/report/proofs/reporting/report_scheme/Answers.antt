@@ -35,7 +35,7 @@ returns-in-Ok g c =
     record {
       text = printed bytes k rows c.requires.reads.0 c.requires.reads.1 (Ok a) order;
       answered = tells bytes k rows c.requires.reads.0 c.requires.reads.1 prices listed g.C.Chooser.room kept _ (Ok a) order after to c.requires.opens refl
-          (subst Put c.empty.ensures c.in-Ok.ensures);
+          (subst Put c.empty.ensures (let e = c.in-Ok.ensures in record { same = e.same; numbers = e.numbers; later = e.later; within = e.within; unmoved = e.unmoved; since = e.since; promised = e.promised; alone = e.alone }));
       published = subst Shown (sub-zero a.length) c.publish_lines.ensures;
     }
 
@@ -55,6 +55,6 @@ returns-in-Err g c =
     record {
       text = printed bytes k rows c.requires.reads.0 c.requires.reads.1 (Err e) order;
       answered = tells bytes k rows c.requires.reads.0 c.requires.reads.1 prices listed g.C.Chooser.room kept _ (Err e) order after to c.requires.opens refl
-          (subst Put c.empty.ensures c.in-Err.ensures);
+          (subst Put c.empty.ensures (let e = c.in-Err.ensures in record { same = e.same; numbers = e.numbers; later = e.later; within = e.within; unmoved = e.unmoved; since = e.since; promised = e.promised; alone = e.alone }));
       published = c.publish.ensures;
     }
