@@ -18,7 +18,7 @@ pub record Opens {V : Type 0} (t : Scale V) (capacity : ℕ) (k : Task) (kept : 
   pub since : Since t capacity (filling k) k kept
 
 -- What a reading answers, and what scheme, kept sets and rows hold before and after it. A fault changes none of them. A file has one reading, and what is no file has one fault.
-pub record Reads-file {V : Type 0} (t : Scale V) (capacity : ℕ) (bytes : List ℕ) (before after : Scheme) (kept to : List Set) (was works : List WorkRow) (had items : List ItemRow) (r : Result Counts Fault) : Type 0 where
+pub record ReadsFile {V : Type 0} (t : Scale V) (capacity : ℕ) (bytes : List ℕ) (before after : Scheme) (kept to : List Set) (was works : List WorkRow) (had items : List ItemRow) (r : Result Counts Fault) : Type 0 where
   pub answer :
       MatchResult r (λ n. Filled bytes (task_of after) was works had items n × Opens t capacity (task_of after) to)
       (λ f. Faulty bytes (length was) (length had) f × (after ≡ before) × (to ≡ kept) × (works ≡ was) × (items ≡ had))

@@ -2,7 +2,7 @@
 ghost use Rattle.std.specs.Prelude.{◌≡◌, MatchResult};
 ghost use Rattle.scheme.specs.Task.{task_of};
 ghost use Rattle.scheme_file.specs.Contents.{Refuses, Written};
-ghost use Rattle.planner.specs.Files.{Reads-file};
+ghost use Rattle.planner.specs.Files.{ReadsFile};
 
 use crate::types::Planner;
 use chooser::Chooser;
@@ -18,7 +18,7 @@ impl<T: Tariff, C: Chooser> Planner<T, C> {
         works: &mut [WorkRow],
         items: &mut [ItemRow],
     ) -> Result<Counts, Fault>
-        ensures { Reads-file T.Tariff.scale C.Chooser.room bytes.now self.old.scheme self.new.scheme (C.Chooser.kept self.old.chooser) (C.Chooser.kept self.new.chooser) works.old works.new items.old items.new result }
+        ensures { ReadsFile T.Tariff.scale C.Chooser.room bytes.now self.old.scheme self.new.scheme (C.Chooser.kept self.old.chooser) (C.Chooser.kept self.new.chooser) works.old works.new items.old items.new result }
     {
         let counts = scheme_file::read(bytes, &mut self.scheme, works, items)?;
         self.chooser.clear();

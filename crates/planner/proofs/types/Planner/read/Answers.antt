@@ -3,7 +3,7 @@ use Rattle.scheme.specs.Task.{task_of}
 use Rattle.scheme_file.specs.declared.causes.Fault.{Fault}
 use Rattle.scheme_file.specs.declared.rows.Counts.{Counts}
 use Rattle.rounds.proofs.Exits.{refusal_passed}
-use Rattle.planner.specs.Files.{Reads-file}
+use Rattle.planner.specs.Files.{ReadsFile}
 use Rattle.planner.proofs.Opening.{opens}
 use Rattle.planner.proofs.types.Planner.read.Goals as goal
 
@@ -11,7 +11,7 @@ pub returns-in_err-counts : goal.returns-in_err-counts
 returns-in_err-counts g c =
     let kept = g.C.Chooser.kept c.args.self.now.chooser in
     let Answers : Result Counts Fault → Type 0 = λ r.
-    Reads-file g.T.Tariff.scale g.C.Chooser.room c.args.bytes.now c.args.self.now.scheme c.read.new.scheme kept kept
+    ReadsFile g.T.Tariff.scale g.C.Chooser.room c.args.bytes.now c.args.self.now.scheme c.read.new.scheme kept kept
     c.args.works.now c.read.new.works c.args.items.now c.read.new.items r
     in
     let read = c.in_err-counts.ensures in
