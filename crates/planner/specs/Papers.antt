@@ -14,7 +14,9 @@ use Rattle.rules.specs.Marks.Marking.{given, refused}
 use Rattle.rules.specs.Marks.Flaw.{barred, lacking, missing}
 use Rattle.rules.specs.Marks.Verdict.{flaw, dearer, cheapest}
 use Rattle.rules.specs.Marks as rules
+use Rattle.rules.specs.Calls.Call.{mark}
 use Rattle.rounds.specs.Checks.{Illegible}
+use Rattle.planner.specs.Asks.{Leads}
 use Rattle.planner.specs.declared.marking.Flaw.{Flaw}
 use Rattle.planner.specs.declared.marking.Flaw.TheVariants.{Barred, Lacking, Missing}
 use Rattle.planner.specs.declared.marking.Verdict.{Verdict}
@@ -120,3 +122,13 @@ module _ {V : Type 0} (t : Scale V) (capacity : ℕ) where
       (m : Marking t.Amount) (other : List Set) →
       Marked t capacity k prices bars paper kept m other →
       SaysMarking t r m × (other ≡ to)
+
+  -- What a marking promises of its result, and of what is held and kept before and after it.
+  pub record Marks (k : Task) (kept : List Set) (prices : List V) (bars : Set) (paper : List ℕ) (r : Result (Verdict V) Refusal) (after : Task) (to : List Set) : Type 0 where
+    pub same : after ≡ k
+    pub numbers : MarkNumbers t k prices bars paper r
+    pub stated : StatedBy t k prices bars paper r
+    pub unmoved : Unasked r kept to
+    pub since : Leads t capacity k kept (mark prices bars paper) after to
+    pub promised : MarksPromised k prices bars paper kept r to
+    pub alone : MarksPromisedAlone k prices bars paper kept r to

@@ -16,13 +16,12 @@ loop-request-preserved g c =
 
 pub returns : goal.returns
 returns g c =
-    let e = c.ask.ensures in
     let all =
     conducted_alone g.T.Tariff.scale g.C.Chooser.room c.args.requests.now c.loop-request.request-index
     (task_of c.loop-request.self.scheme) (task_of c.ask.new.self.scheme) (g.C.Chooser.kept c.loop-request.self.chooser)
-    (g.C.Chooser.kept c.ask.new.self.chooser) c.args.prices.now c.args.bars c.args.order.now c.ask.result
+    (g.C.Chooser.kept c.ask.new.self.chooser) c.args.terms.now.prices.now c.args.terms.now.bars c.args.order.now c.ask.result
     c.ask.new.order c.loop-request-test.false c.loop-request.invariant
-    (record { same = e.same; numbers = e.numbers; later = e.later; within = e.within; unmoved = e.unmoved; since = e.since; promised = e.promised; alone = e.alone })
+    c.ask.ensures
     in
     record {
       conducted = conducted_all g.T.Tariff.scale g.C.Chooser.room all;

@@ -20,27 +20,27 @@ returns-in_err-added g c =
       effect = effect_not_stood g.T.Tariff.scale g.C.Chooser.room k after (g.C.Chooser.kept c.args.self.now.chooser) c.args.item c.in_err-added.field-0.0 edit;
     }
 
-pub returns : goal.returns
-returns g c =
+pub returns-then-added : goal.returns-then-added
+returns-then-added g c =
     let t = g.T.Tariff.scale in
     let k = task_of c.args.self.now.scheme in
     let kept = g.C.Chooser.kept c.args.self.now.chooser in
     let after = task_of c.stand.new.self in
     let Edits : Bool → Type 0 = λ b. Stood k c.args.item (Ok b) after in
-    let edit : Edits true = subst Edits c.if-not-added.false c.in_ok-added.ensures in
+    let edit : Edits true = subst Edits c.if-added.true c.in_ok-added.ensures in
     let Effects : List Set → Type 0 = λ to. Effect t g.C.Chooser.room k kept (stand c.args.item) after to in
     record {
-      edit = edit;
+      edit = c.in_ok-added.ensures;
       effect = subst Effects (sym c.clear.ensures) (effect_stood t g.C.Chooser.room k after kept c.args.item edit);
     }
 
-pub returns-then-not-added : goal.returns-then-not-added
-returns-then-not-added g c =
+pub returns-else-added : goal.returns-else-added
+returns-else-added g c =
     let k = task_of c.args.self.now.scheme in
     let after = task_of c.stand.new.self in
     let Edits : Bool → Type 0 = λ b. Stood k c.args.item (Ok b) after in
-    let edit : Edits false = subst Edits c.if-not-added.true c.in_ok-added.ensures in
+    let edit : Edits false = subst Edits c.if-added.false c.in_ok-added.ensures in
     record {
-      edit = edit;
+      edit = c.in_ok-added.ensures;
       effect = effect_stood_before g.T.Tariff.scale g.C.Chooser.room k after (g.C.Chooser.kept c.args.self.now.chooser) c.args.item edit;
     }
