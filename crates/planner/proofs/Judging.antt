@@ -1,5 +1,5 @@
 -- What a marking promises, from what its steps answer.
-use Rattle.std.proofs.Common.{◌≡◌, ℕ, List, [], ◌∷◌, Ok, Err, Result, sym, refl, ap, subst, inl, inr, ⊎_elim, arith}
+use Rattle.std.proofs.Common.{ℕ, List, [], ◌∷◌, Ok, Err, Result, sym, refl, ap, subst, inl, inr, ⊎_elim, arith}
 use Rattle.sets.specs.declared.Set.{Set}
 use Rattle.scheme.specs.Task.{Task}
 use Rattle.scheme.specs.Orders.{Plan}

@@ -2,12 +2,12 @@
 ghost use Rattle.std.specs.Prelude.{◌<◌, length};
 ghost use Rattle.scheme.specs.Task.{task_of};
 ghost use Rattle.tariff.specs.Amounts.{All};
-ghost use Rattle.planner.specs.Papers.{task_from, FirstFlaw, Compares, Marks};
+ghost use Rattle.planner.specs.Papers.{Compares, FirstBarred, FirstFlaw, Marks};
 
 use crate::types::Planner;
 use chooser::{Chooser, Terms};
 use rounds::Question;
-use scheme::{Refusal, Scheme, Work};
+use scheme::{Refusal, Scheme, Stop};
 use sets::Set;
 use tariff::Tariff;
 
@@ -40,7 +40,7 @@ impl<T: Tariff, C: Chooser> Planner<T, C> {
             terms: *terms,
         };
         question.check_paper(paper)?;
-        if let Some(flaw) = flaw_of(&self.scheme, terms.bars, paper) {
+        if let Some(flaw) = first_flaw(&self.scheme, terms.bars, paper) {
             return Ok(Verdict::Flawed(flaw));
         }
         let found = question.find(&mut self.chooser)?;
@@ -48,41 +48,33 @@ impl<T: Tariff, C: Chooser> Planner<T, C> {
     }
 }
 
-/// The first flaw of a paper of held works, if it is no plan.
-fn flaw_of(scheme: &Scheme, bars: Set, paper: &[u8]) -> Option<Flaw>
+/// The first flaw of a paper of held works, if it is no plan: the works before the first barred one are carried out.
+fn first_flaw(scheme: &Scheme, bars: Set, paper: &[u8]) -> Option<Flaw>
     requires { All (λ w. w < length (task_of scheme.now).works) paper.now }
     ensures { FirstFlaw (task_of scheme.now) bars paper.now result }
 {
-    first_flaw(
-        scheme.works(),
-        scheme.standing(),
-        scheme.wanted(),
-        bars,
-        paper,
-    )
+    let barred = first_barred(bars, paper);
+    let free = barred.unwrap_or(paper.len());
+    match scheme.carry_out(&paper[..free]) {
+        Err(Stop::NotHeld { .. }) => unreachable!(),
+        Err(Stop::Lacking { place, item }) => Some(Flaw::Lacking { place, item }),
+        Ok(held) => match barred {
+            Some(place) => Some(Flaw::Barred { place }),
+            None => {
+                let item = scheme.wanted().minus(held).lowest()?;
+                Some(Flaw::Missing { item })
+            }
+        },
+    }
 }
 
-/// The first flaw of a paper of held works, from the standing items to the wanted ones.
-fn first_flaw(works: &[Work], standing: Set, wanted: Set, bars: Set, paper: &[u8]) -> Option<Flaw>
-    requires { All (λ w. w < length works.now) paper.now }
-    ensures { FirstFlaw (task_from works.now standing wanted) bars paper.now result }
+/// The first place of a paper at which a barred work stands.
+fn first_barred(bars: Set, paper: &[u8]) -> Option<usize>
+    ensures { FirstBarred bars paper.now result }
 {
-    let mut held = standing;
-    for (place, number) in paper.iter().enumerate() {
-        let w = *number as usize;
-        if bars.contains(w) {
-            return Some(Flaw::Barred { place });
-        }
-        let work = works[w];
-        if let Some(item) = work.needs.minus(held).lowest() {
-            return Some(Flaw::Lacking { place, item });
-        }
-        held = held.union(work.gives);
-    }
-    if let Some(item) = wanted.minus(held).lowest() {
-        return Some(Flaw::Missing { item });
-    }
-    None
+    paper
+        .iter()
+        .position(|number| bars.contains(*number as usize))
 }
 
 /// The total of a paper, beside that of the cheapest set.
