@@ -6,9 +6,9 @@ use Rattle.scheme.specs.Task.{Task}
 use Rattle.scheme.specs.Edits.{opened}
 use Rattle.scheme.specs.declared.refusals.Refusal.{Refusal}
 use Rattle.tariff.specs.Amounts.{Scale}
-use Rattle.rules.specs.Calls.{Call, Effect, Since, opening, then}
+use Rattle.rules.specs.Calls.{Effect, Since, opening, then}
 use Rattle.rules.proofs.Unique.{since_unique}
-use Rattle.planner.specs.Asks.{Asks, Leads, Conducted, ConductedAlone}
+use Rattle.planner.specs.Asks.{Asks, Leads, ConductedAlone}
 use Rattle.planner.specs.Views.{call_of, calls_of}
 use Rattle.planner.specs.declared.types.Answer.{Answer}
 use Rattle.planner.specs.declared.types.Request.{Request}
@@ -63,17 +63,3 @@ module _ {V : Type 0} (t : Scale V) (capacity : ℕ) where
           comes_to = λ valid. asks.promised (calls_of requests) all valid;
           after_all = asks.since (calls_of requests) all;
         }
-
-  -- ConductedAlone has all that Conducted says
-  pub conducted_all :
-      {calls : List (Call V)} {prices : List V} {bars : Set} {from : List ℕ} {r : Result (Answer V) Refusal} {order : List ℕ} {after : Task} {to : List Set} →
-      ConductedAlone t capacity calls prices bars from r order after to →
-      Conducted t capacity calls prices bars (length from) r order after to
-  conducted_all all = record {
-    k = all.k;
-    kept = all.kept;
-    since = all.since;
-    numbers = all.asks.numbers;
-    promised = all.comes_to;
-    later = all.after_all;
-  }

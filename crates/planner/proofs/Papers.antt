@@ -16,7 +16,7 @@ use Rattle.rules.specs.Marks.Flaw.{barred, lacking, missing}
 use Rattle.planner.specs.Papers.{FirstBarred}
 
 -- none of the first works is barred, place by place and work by work
-pub front_free :
+front_free :
     (bars : Set) (order : List ℕ) (n : ℕ) →
     ((j : ℕ) → j < n → Has bars (get_or order j 0) → ⊥) →
     (w : ℕ) → In w (take n order) → Has bars w → ⊥
@@ -28,7 +28,7 @@ front_free bars (v ∷ rest) (suc n) free w (inr y) = front_free bars rest n (λ
 
 module _ (k : Task) (bars : Set) where
   -- What is the first flaw of the works left is the first flaw of the whole, where the works before them are carried out and none of them is barred.
-  pub flawed_after :
+  flawed_after :
       {s t : Set} {front : List ℕ} →
       Carried k.works s front t →
       ((w : ℕ) → In w front → Has bars w → ⊥) →
