@@ -4,3 +4,4 @@ pub mod Judging
 pub mod Agreeing
 pub mod Histories
 pub mod Opening
+pub mod Leading

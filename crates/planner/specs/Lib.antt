@@ -1,3 +1,4 @@
+pub mod Led
 pub mod Views
 pub mod Asks
 pub mod Papers

@@ -6,8 +6,9 @@ use crate::types::Planner;
 use chooser::Chooser;
 use scheme::{Refusal, Scheme};
 use sets::Set;
+use tariff::Tariff;
 
-impl<T, C: Chooser> Planner<T, C> {
+impl<T: Tariff, C: Chooser> Planner<T, C> {
     /// The scheme that the planner is above.
     pub fn scheme(&self) -> &Scheme
         ensures { result.now ≡ self.now.scheme }

@@ -1,5 +1,8 @@
 //! Planners and their answers.
-use chooser::Terms;
+ghost use Rattle.scheme.specs.Task.{task_of};
+ghost use Rattle.planner.specs.Led.{Led};
+
+use chooser::{Chooser, Terms};
 use scheme::Scheme;
 use sets::Set;
 use tariff::Tariff;
@@ -43,10 +46,11 @@ pub enum Request<'a, T: Tariff> {
     },
 }
 
-/// A scheme above its chooser, under one tariff.
+/// A scheme above its chooser, under one tariff: what they hold and keep is what some list of calls since an opening leads to.
 #[derive(Drop)]
-pub struct Planner<T, C> {
+pub struct Planner<T: Tariff, C: Chooser> {
     pub(crate) tariff: T,
     pub(crate) scheme: Scheme,
     pub(crate) chooser: C,
+    ghost led: { Led T.Tariff.scale C.Chooser.room (task_of scheme) (C.Chooser.kept chooser) },
 }
