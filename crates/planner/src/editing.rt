@@ -15,17 +15,17 @@ use tariff::Tariff;
 
 impl<T: Tariff, C: Chooser> Planner<T, C> {
     /// A planner newly opened, above a scheme and a chooser that are emptied.
-    pub fn new(tariff: T, scheme: Scheme, chooser: C) -> Planner<T, C>
+    pub fn new(tariff: T, mut scheme: Scheme, mut chooser: C) -> Planner<T, C>
         ensures held { task_of result.scheme ≡ opened }
         ensures kept { C.Chooser.kept result.chooser ≡ [] }
     {
-        let mut planner = Planner {
+        scheme.open();
+        chooser.clear();
+        Planner {
             tariff,
             scheme,
             chooser,
-        };
-        planner.open();
-        planner
+        }
     }
 
     /// A planner newly opened, with places for all works reserved, above a chooser that is emptied.

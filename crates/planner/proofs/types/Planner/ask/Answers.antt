@@ -1,5 +1,6 @@
 use Rattle.std.proofs.lemmas.Result.{err_from_is_err_and}
-use Rattle.planner.proofs.Asking.{asked_refused, asked_answered}
+use Rattle.planner.proofs.Asking.{asked_refused, asked_answered, leads_put}
+use Rattle.planner.proofs.Leading.{led_on}
 use Rattle.planner.proofs.types.Planner.ask.Goals as goal
 
 pub returns-in_err-found : goal.returns-in_err-found
@@ -9,3 +10,6 @@ returns-in_err-found g c =
 
 pub returns : goal.returns
 returns g c = asked_answered _ _ _ _ _ _ _ c.in_ok-found.found _ _ _ _ c.in_ok-found.ensures c.in_ok-length.ensures.1 c.set_cost.ensures
+
+pub invariant_of-self : goal.invariant_of-self
+invariant_of-self g c = record { led = led_on _ _ (leads_put _ _ _ _ _ _ _ c.put.result _ c.put.ensures) c.args.self.now.led }

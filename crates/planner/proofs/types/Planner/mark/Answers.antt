@@ -1,5 +1,6 @@
 use Rattle.std.proofs.lemmas.Result.{err_from_is_err_and}
 use Rattle.planner.proofs.Judging.{marked_illegible, marked_flawed, marked_refused, marked_compared}
+use Rattle.planner.proofs.Leading.{led_found}
 use Rattle.planner.proofs.types.Planner.mark.Goals as goal
 
 pub returns-in_err-check_paper : goal.returns-in_err-check_paper
@@ -20,3 +21,6 @@ pub returns : goal.returns
 returns g c =
     marked_compared _ _ _ _ _ _ _ c.in_ok-check_paper.ensures c.in_default.ensures c.in_ok-found.found _ _
     c.in_ok-found.ensures c.compare.ensures
+
+pub invariant_of-self-2 : goal.invariant_of-self-2
+invariant_of-self-2 g c = record { led = led_found _ _ _ _ _ c.in_ok-check_paper.ensures c.find.result c.find.ensures c.args.self.now.led }

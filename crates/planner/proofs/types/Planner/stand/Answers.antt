@@ -1,4 +1,6 @@
 use Rattle.rules.proofs.Effects.{effect_stood, effect_stood_before, effect_not_stood}
+use Rattle.planner.proofs.Leading.{led_by_effect}
+use Rattle.rules.specs.Calls.Call.{stand}
 use Rattle.planner.proofs.types.Planner.stand.Goals as goal
 
 pub returns-in_err-added-clause-effect : goal.returns-in_err-added-clause-effect
@@ -13,3 +15,16 @@ pub returns-else-added-clause-effect : goal.returns-else-added-clause-effect
 returns-else-added-clause-effect g c =
     let stood = rw c.if-added.false at c.in_ok-added.ensures in
     effect_stood_before _ _ _ _ _ _ stood
+
+pub invariant_of-self : goal.invariant_of-self
+invariant_of-self g c = record { led = led_by_effect _ _ {c = stand c.args.item} (effect_not_stood _ _ _ _ _ _ _ c.in_err-added.ensures) c.args.self.now.led }
+
+pub invariant_of-self-then-added : goal.invariant_of-self-then-added
+invariant_of-self-then-added g c =
+    let stood = rw c.if-added.true at c.in_ok-added.ensures in
+    record { led = led_by_effect _ _ {c = stand c.args.item} (rw c.clear.ensures (effect_stood _ _ _ _ _ _ stood)) c.args.self.now.led }
+
+pub invariant_of-self-else-added : goal.invariant_of-self-else-added
+invariant_of-self-else-added g c =
+    let stood = rw c.if-added.false at c.in_ok-added.ensures in
+    record { led = led_by_effect _ _ {c = stand c.args.item} (effect_stood_before _ _ _ _ _ _ stood) c.args.self.now.led }
