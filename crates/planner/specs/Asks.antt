@@ -59,6 +59,10 @@ module _ {V : Type 0} (t : Scale V) (capacity : ℕ) where
       Valid t k prices bars places →
       ComesTo k prices bars kept r order to
 
+  -- a valid question comes to an outcome, whatever calls led here
+  abbrev pub Assured : Task → List V → Set → ℕ → List Set → Result (Answer V) Refusal → List ℕ → List Set → Type 0
+  Assured k prices bars places kept r order to = Valid t k prices bars places → ∥ ComesTo k prices bars kept r order to ∥₁
+
   -- whatever the rules give, the result says it: there is one outcome
   abbrev pub PromisedAlone : Task → List V → Set → ℕ → List Set → Result (Answer V) Refusal → List ℕ → List Set → Type 0
   PromisedAlone k prices bars places kept r order to =
@@ -98,6 +102,17 @@ module _ {V : Type 0} (t : Scale V) (capacity : ℕ) where
     pub asks : Asks k kept prices bars from r order after to
     pub comes_to : Valid t k prices bars (length from) → ComesTo k prices bars kept r order to
     pub after_all : Since t capacity (calls ++ (ask prices bars (length from) ∷ [])) after to
+
+-- Two planners alike in what they hold, asked alike, whatever calls led there: what they say agrees.
+abbrev pub Alike : {V : Type 0} (t : Scale V) → Task → Task → List V → Set → ℕ → ℕ → Result (Answer V) Refusal → List ℕ → Result (Answer V) Refusal → List ℕ → Type 0
+Alike t k k' prices bars places places' r order r' order' =
+    k ≡ k' →
+    Valid t k prices bars places →
+    Valid t k prices bars places' →
+    (o o' : Outcome t.Amount) →
+    Says t r order o →
+    Says t r' order' o' →
+    ∥ Agree o o' ∥₁
 
 -- Two planners, each come about by calls of its own, above choosers of any capacities, alike in what they hold, asked alike: what they say agrees.
 abbrev pub Agreed : {V : Type 0} (t : Scale V) → (capacity capacity' : ℕ) → Task → Task → List Set → List Set → List V → Set → ℕ → ℕ → Result (Answer V) Refusal → List ℕ → Result (Answer V) Refusal → List ℕ → Type 0

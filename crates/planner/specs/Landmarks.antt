@@ -3,6 +3,13 @@ use Rattle.std.specs.Prelude.{◌≡◌, ℕ, ◌<◌, List, map, length, take, 
 use Rattle.sets.specs.declared.Set.{Set}
 use Rattle.scheme.specs.declared.refusals.Refusal.{Refusal}
 use Rattle.scheme.specs.Refusals.{number_of}
+use Rattle.scheme.specs.Task.{Task}
+use Rattle.scheme.specs.Landmarks.{Landmark}
+use Rattle.tariff.specs.Amounts.{All}
+
+-- every kept set shares a work with every order that can be carried out and leaves every wanted item standing
+abbrev pub AllLandmarks : Task → List Set → Type 0
+AllLandmarks k kept = ∥ All (Landmark k) kept ∥₁
 
 abbrev pub number : Set → ℕ
 number s = s.bits

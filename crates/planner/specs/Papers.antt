@@ -115,6 +115,11 @@ module _ {V : Type 0} (t : Scale V) (capacity : ℕ) where
       Readable t k prices bars paper →
       ComesToMarking k prices bars paper kept r to
 
+  -- a readable paper comes to a marking, whatever calls led here
+  abbrev pub AssuredMarking : Task → List V → Set → List ℕ → List Set → Result (Verdict V) Refusal → List Set → Type 0
+  AssuredMarking k prices bars paper kept r to =
+      Readable t k prices bars paper → ∥ ComesToMarking k prices bars paper kept r to ∥₁
+
   -- whatever the rules give, the result says it: there is one marking
   abbrev pub MarksPromisedAlone : Task → List V → Set → List ℕ → List Set → Result (Verdict V) Refusal → List Set → Type 0
   MarksPromisedAlone k prices bars paper kept r to =

@@ -1,6 +1,7 @@
 //! What a planner holds: its scheme, and the landmarks that it keeps.
 ghost use Rattle.std.specs.Prelude.{◌≡◌, ◌<◌, ◌≤◌, length, MatchOption, slice_index_or};
-ghost use Rattle.planner.specs.Landmarks.{Copies};
+ghost use Rattle.scheme.specs.Task.{task_of};
+ghost use Rattle.planner.specs.Landmarks.{AllLandmarks, Copies};
 
 use crate::types::Planner;
 use chooser::Chooser;
@@ -16,9 +17,10 @@ impl<T: Tariff, C: Chooser> Planner<T, C> {
         &self.scheme
     }
 
-    /// How many landmarks are kept.
+    /// How many landmarks are kept. Every kept set is one.
     pub fn landmarks(&self) -> usize
-        ensures { result ≡ length (C.Chooser.kept self.now.chooser) }
+        ensures count { result ≡ length (C.Chooser.kept self.now.chooser) }
+        ensures landmarks { AllLandmarks (task_of self.now.scheme) (C.Chooser.kept self.now.chooser) }
     {
         self.chooser.count()
     }

@@ -2,7 +2,7 @@
 ghost use Rattle.std.specs.Prelude.{◌<◌, length};
 ghost use Rattle.scheme.specs.Task.{task_of};
 ghost use Rattle.tariff.specs.Amounts.{All};
-ghost use Rattle.planner.specs.Papers.{Compares, FirstBarred, FirstFlaw, Marks};
+ghost use Rattle.planner.specs.Papers.{AssuredMarking, Compares, FirstBarred, FirstFlaw, Marks};
 
 use crate::types::Planner;
 use chooser::{Chooser, Terms};
@@ -33,7 +33,8 @@ pub enum Verdict<V> {
 impl<T: Tariff, C: Chooser> Planner<T, C> {
     /// Marks a candidate's order: its first flaw, or its total and whether a cheaper order does the same.
     pub fn mark(&mut self, terms: &Terms<'_, T>, paper: &[u8]) -> Result<Verdict<T::Value>, Refusal>
-        ensures { Marks T.Tariff.scale C.Chooser.room (task_of self.old.scheme) (C.Chooser.kept self.old.chooser) terms.now.prices.now terms.now.bars paper.now result (task_of self.new.scheme) (C.Chooser.kept self.new.chooser) }
+        ensures marks { Marks T.Tariff.scale C.Chooser.room (task_of self.old.scheme) (C.Chooser.kept self.old.chooser) terms.now.prices.now terms.now.bars paper.now result (task_of self.new.scheme) (C.Chooser.kept self.new.chooser) }
+        ensures assured { AssuredMarking T.Tariff.scale C.Chooser.room (task_of self.old.scheme) terms.now.prices.now terms.now.bars paper.now (C.Chooser.kept self.old.chooser) result (C.Chooser.kept self.new.chooser) }
     {
         let question = Question {
             scheme: &self.scheme,

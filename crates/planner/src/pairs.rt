@@ -1,7 +1,7 @@
 //! Two planners asked alike.
 ghost use Rattle.std.specs.Prelude.{length};
 ghost use Rattle.scheme.specs.Task.{task_of};
-ghost use Rattle.planner.specs.Asks.{Agreed, Asks};
+ghost use Rattle.planner.specs.Asks.{Agreed, Alike, Asks};
 
 use crate::types::{Answer, Planner};
 use chooser::{Chooser, Terms};
@@ -22,6 +22,7 @@ pub fn ask_both<T: Tariff, C: Chooser, D: Chooser>(
 )
     ensures first { Asks T.Tariff.scale C.Chooser.room (task_of one.old.scheme) (C.Chooser.kept one.old.chooser) terms.now.prices.now terms.now.bars order.old result.0 order.new (task_of one.new.scheme) (C.Chooser.kept one.new.chooser) }
     ensures other { Asks T.Tariff.scale D.Chooser.room (task_of other.old.scheme) (D.Chooser.kept other.old.chooser) terms.now.prices.now terms.now.bars second.old result.1 second.new (task_of other.new.scheme) (D.Chooser.kept other.new.chooser) }
+    ensures alike { Alike T.Tariff.scale (task_of one.old.scheme) (task_of other.old.scheme) terms.now.prices.now terms.now.bars (length order.old) (length second.old) result.0 order.new result.1 second.new }
     ensures agreed { Agreed T.Tariff.scale C.Chooser.room D.Chooser.room (task_of one.old.scheme) (task_of other.old.scheme) (C.Chooser.kept one.old.chooser) (D.Chooser.kept other.old.chooser) terms.now.prices.now terms.now.bars (length order.old) (length second.old) result.0 order.new result.1 second.new }
 {
     (one.ask(terms, order), other.ask(terms, second))

@@ -1,6 +1,7 @@
 //! Questions: the cheapest order of unbarred works that leaves every wanted item standing.
+ghost use Rattle.std.specs.Prelude.{length};
 ghost use Rattle.scheme.specs.Task.{task_of};
-ghost use Rattle.planner.specs.Asks.{Asks};
+ghost use Rattle.planner.specs.Asks.{Asks, Assured};
 
 use crate::types::{Answer, Planner};
 use chooser::{Chooser, Terms};
@@ -16,7 +17,8 @@ impl<T: Tariff, C: Chooser> Planner<T, C> {
         terms: &Terms<'_, T>,
         order: &mut [u8],
     ) -> Result<Answer<T::Value>, Refusal>
-        ensures { Asks T.Tariff.scale C.Chooser.room (task_of self.old.scheme) (C.Chooser.kept self.old.chooser) terms.now.prices.now terms.now.bars order.old result order.new (task_of self.new.scheme) (C.Chooser.kept self.new.chooser) }
+        ensures asks { Asks T.Tariff.scale C.Chooser.room (task_of self.old.scheme) (C.Chooser.kept self.old.chooser) terms.now.prices.now terms.now.bars order.old result order.new (task_of self.new.scheme) (C.Chooser.kept self.new.chooser) }
+        ensures assured { Assured T.Tariff.scale C.Chooser.room (task_of self.old.scheme) terms.now.prices.now terms.now.bars (length order.old) (C.Chooser.kept self.old.chooser) result order.new (C.Chooser.kept self.new.chooser) }
     {
         let question = Question {
             scheme: &self.scheme,

@@ -12,4 +12,4 @@ loop-request-preserved g c =
 pub returns-clause-alone : goal.returns-clause-alone
 returns-clause-alone g c =
     conducted_alone _ _ c.args.requests.now _ _ _ _ _ _ _ _ _ _ c.loop-request-test.false c.loop-request.invariant
-    c.ask.ensures
+    c.ask.ensures.asks
