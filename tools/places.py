@@ -172,6 +172,31 @@ def travelling(least=4, share=0.8):
             yield f"{a} with {b}: {', '.join(names)}"
 
 
+def answers():
+    """Answers and invariants that the check was given."""
+    for path in sorted(ROOT.glob("crates/*/proofs/**/*.antt")):
+        for number, line in enumerate(path.read_text().split("\n"), 1):
+            found = re.match(r"(?:abbrev )?pub ([\w-]+) : goal\.", line)
+            if found:
+                yield f"{path.relative_to(ROOT)}:{number}: {found.group(1)}"
+
+
+def repeated_lemmas():
+    """Lemmas of which another one says the same in the same words."""
+    says = {}
+    for path in sorted(ROOT.glob("crates/*/proofs/**/*.antt")):
+        text = re.sub(r"--.*", "", path.read_text())
+        for found in re.finditer(r"^ *(?:abbrev )?(?:pub )?([\w']+) :\s(.*?)\n *\1\b", text, re.M | re.S):
+            statement = " ".join(found.group(2).split())
+            if "→" in statement and "goal." not in statement:
+                names = {}
+                key = re.sub(r"\b[a-z]\w*'*\b", lambda m: names.setdefault(m.group(0), f"x{len(names)}"), statement)
+                says.setdefault(key, []).append(f"{path.relative_to(ROOT)} {found.group(1)}")
+    for names in says.values():
+        if len(names) > 1:
+            yield " | ".join(names)
+
+
 KINDS = {
     "1a own enums with at most two variants": option_like,
     "1b flags": lambda: lines_with(r"let mut \w+ = (true|false);|\b\w+: bool\b"),
@@ -193,6 +218,8 @@ KINDS = {
     "6a arrays of a fixed size used as buffers": lambda: (l for l in lines_with(r"let mut \w+ = \[[^\]]*; [0-9A-Z]\w*\]|^\s*\w+: \[[^\]]*; [0-9A-Z]\w*\]") if "tests.rt" not in l and "trials" not in l),
     "6b a length beside a buffer": lambda: lines_with(r"^\s*(pub )?(len|count|placed): usize"),
     "7a switches on a step, function values": lambda: lines_with(r"\benum (Step|Request)\b|match (step|advance|request)\b|\bdyn\b|: fn\("),
+    "8a answers and invariants given to the check": answers,
+    "8b lemmas whose statements have one shape": repeated_lemmas,
 }
 
 
