@@ -1,13 +1,19 @@
 -- The best choice for a subset of the kept sets, from the best choices for lower numbers.
-use Rattle.std.proofs.Common.{◌≡◌, ℕ, ◌+◌, ◌<◌, ◌≢◌, ◌⊎◌, List, length, get_or, set, sym, refl, subst, inl, inr, ⊎_elim, arith, get_or-set_other, get_or-set_same, below_more}
+use Rattle.std.proofs.Common.{◌≡◌, ℕ, ◌+◌, ◌<◌, ◌≢◌, ◌⊎◌, List, Some, length, get_or, set, sym, refl, subst, inl, inr, ⊎_elim, arith, get_or-set_other, get_or-set_same, below_more}
+use Rattle.std.specs.Fn.{Called}
+use Rattle.std.specs.Iterator.{FoldsItems}
+use denote.Param.Members.{Mut}
 use Rattle.sets.specs.declared.Set.{Set}
+use Rattle.sets.specs.declared.iter.SetIter.{SetIter}
+use Rattle.sets.specs.Steps.{Next}
 use Rattle.sets.specs.Member.{Has, Members, Sub, none}
 use Rattle.sets.proofs.Laws.{has_or_not, none_has}
 use Rattle.tariff.specs.Amounts.{Scale}
 use Rattle.chooser.specs.Least.{Precedes}
 use Rattle.chooser.proofs.Parts.{less_one, put_back, same_or_not}
 use Rattle.chooser.proofs.Precedence.{precedes_sub, precedes_transitive, precedes_with}
-use Rattle.tabler.specs.Table.{Best, Earlier, Filled, Joins, Met, Touched, Unmet}
+use Rattle.tabler.specs.Table.{Best, Earlier, Filled, Joins, Met, Touched, Turn, Unmet}
+use Rattle.tabler.proofs.Folds.{fold_along}
 use Rattle.tabler.proofs.Subsets.{unmet_lower}
 
 module _ {V : Type 0} (t : Scale V) (prices : List V) (free : Set) (sets : List Set) where
@@ -117,3 +123,29 @@ module _ {V : Type 0} (t : Scale V) (prices : List V) (free : Set) (sets : List 
           let at = met place member in
           tried.first o h met at.0 ((m at.0).1 (h at.0 at.1, at.2)) (empty at.0) at.1;
     }
+
+    -- ---- the same by a fold over the works
+
+    module _
+        (table : List Set) (filled : Filled t prices free sets table subset.bits) (works : Set) (place : ℕ)
+        (members : Members works (λ k. Has free k × Has (get_or sets place none) k)) (member : Has subset place) where
+      tried_turn :
+          (rest others a b : Set) (w : ℕ) → Tried works rest a → Next rest (Some w) others → Turn t prices free sets table subset a w b → Tried works others b
+      tried_turn rest others a b w so_far next turn =
+          let here = (members w).0 (so_far.within w next.0.member) in
+          let touched : Touched sets subset w = (place, member, here.1) in
+          let joins = turn.joins next.1 in
+          tried_more table filled w here.0 touched turn.other joins works rest others a b so_far next.2
+          (turn.earlier so_far.inside (joined_inside table filled w here.0 touched turn.other joins))
+
+      pub fold_best :
+          {F : Type 0} {g : Mut F (Set × (ℕ × Unit {0})) Set} {f : F} (s : SetIter) (best : Set) → s.rest ≡ works →
+          Met sets subset free → FoldsItems (λ (s : SetIter) r t. Next s.rest r t.rest) g s f free best →
+          ((a : Set) (w : ℕ) (b : Set) (f' : F) → Called g f (a, (w, tt)) b f' → Turn t prices free sets table subset a w b × (f' ≡ f)) →
+          Best t prices free sets subset best
+      fold_best {g = g} {f = f} s best e met (ws, f', (u, (t', yields, ended)), folds) turns =
+          tried_all works t'.rest best place
+          (fold_along (λ (s : SetIter) r t. Next s.rest r t.rest) g (λ s a. Tried works s.rest a) f
+          (λ s a w r b h so_far next call. let turn = turns a w b h call in (tried_turn s.rest r.rest a b w so_far next turn.0, turn.1))
+          ws s t' free best f' yields folds (subst (λ rest. Tried works rest free) (sym e) (tried_none works met)))
+          ended.0 members member

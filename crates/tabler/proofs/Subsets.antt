@@ -4,7 +4,7 @@ use native.Mathlib.Decide.{dec_lt}
 use lib.ListN.{get_or-eq_default}
 use Rattle.sets.specs.declared.Set.{Set}
 use Rattle.sets.specs.Member.{Has, Members, Meet, none}
-use Rattle.sets.proofs.Laws.{below_members, has_below, none_has, proper_lt}
+use Rattle.sets.proofs.Laws.{below_members, has_below, none_has, proper_lt, sub_le}
 use Rattle.tariff.specs.Amounts.{All}
 use Rattle.tariff.proofs.Sums.{all_at}
 use Rattle.chooser.proofs.Hits.{all_of_places}
@@ -75,3 +75,7 @@ module _ (sets : List Set) (w : ℕ) (subset : Set) where
 pub unmet_lower : (sets : List Set) (subset left : Set) (w : ℕ) → Touched sets subset w → Unmet sets subset w left → left.bits < subset.bits
 unmet_lower sets subset left w some m =
     proper_lt left subset (λ k y. ((m k).0 y).0) some.0 some.1 (λ y. ((m some.0).0 y).1 some.2)
+
+-- their number is at most the subset's
+pub unmet_within : (sets : List Set) (subset left : Set) (w : ℕ) → Unmet sets subset w left → left.bits ≤ subset.bits
+unmet_within sets subset left w m = sub_le left subset (λ k y. ((m k).0 y).0)
