@@ -3,10 +3,11 @@ use Rattle.std.proofs.Common.{ℕ, ◌⊎◌, ◌<◌, Bool, true, false, MatchB
 use Rattle.std.proofs.Math.Logic.{∥∥₁_elim, ∥∥₁_map}
 use Rattle.std.specs.List.{AllWithin, HoldsAt}
 use Rattle.sets.specs.declared.Set.{Set}
-use Rattle.sets.specs.Member.{Meet, none}
+use Rattle.sets.specs.Member.{Meet, Sub, none}
 use Rattle.sets.proofs.Laws.{has_or_not, meet_or_not}
 use Rattle.tariff.specs.Amounts.{All, Scale}
 use Rattle.tariff.proofs.Sums.{all_at}
+use Rattle.chooser.specs.Least.{SetCapped}
 use Rattle.chooser.proofs.Hits.{all_of_places}
 use Rattle.chooser.proofs.Precedence.{precedes_or_not}
 use Rattle.tabler.specs.Table.{Best, Filled}
@@ -38,3 +39,10 @@ module _ {V : Type 0} (t : Scale V) (prices : List V) (free : Set) (sets : List 
 
   pub filled_shown : (table : List Set) (m : ℕ) → ∥ Filled t prices free sets table m ∥₁ → Filled t prices free sets table m
   filled_shown table m some k lt = best_shown (record { bits = k }) (get_or table k none) (∥∥₁_map some (λ filled. filled k lt))
+
+  -- what holds of two sets of works within the ceiling
+  pub within_ceiling :
+      {P : Type 0} → P ⊎ (P → ⊥) → ∥ SetCapped t prices free ∥₁ → (a b : Set) → Sub a free → Sub b free →
+      (SetCapped t prices a → SetCapped t prices b → P) → P
+  within_ceiling known some a b in-a in-b shows =
+      decided known some (λ capped. shows (λ w y. capped w (in-a w y)) (λ w y. capped w (in-b w y)))
