@@ -1,6 +1,5 @@
 pub mod Decided
 pub mod Reaches
-mod Passes
 mod Carryings
 mod Placings
 pub mod Ordered

@@ -35,6 +35,7 @@ impl Scheme {
     }
 
     /// The works whose needs lie among some items and whose gives do not.
+    #[tactic(auto, using(sets::proofs::Laws::none_has))]
     fn leaving(&self, items: Set) -> Set
         ensures { Members result (λ w. (w < length (task_of self.now).works) × Leaves (task_of self.now).works items w) }
     {

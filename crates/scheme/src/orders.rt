@@ -29,6 +29,7 @@ impl Scheme {
 
     /// Writes the order of a set of works into the first places: at each step its lowest-numbered unplaced work whose needs stand.
     /// Answers how many were placed; later places stay.
+    #[tactic(auto, using(crate::proofs::Placings::serves))]
     pub fn order(&self, chosen: Set, places: &mut [u8]) -> Result<usize, Refusal>
         ensures { Orders (task_of self.now) chosen places.old result places.new }
     {
