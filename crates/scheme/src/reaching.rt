@@ -10,6 +10,7 @@ use sets::Set;
 
 impl Scheme {
     /// The reach of a set of works: the smallest set that holds the standing items and the gives of each of them whose needs it holds.
+    #[tactic(auto, using(sets::proofs::Laws::sub_le))]
     pub fn reach(&self, chosen: Set) -> Set
         ensures { Reach (task_of self.now).works (Has chosen) (task_of self.now).standing result }
     {
