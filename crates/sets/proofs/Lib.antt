@@ -1,5 +1,4 @@
 pub mod Bits
-mod Cases
 mod Commas
 pub mod Decided
 pub mod Laws
