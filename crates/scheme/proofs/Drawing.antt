@@ -4,13 +4,14 @@ use native.Mathlib.Decide.{dec_lt}
 use Rattle.sets.specs.declared.Set.{Set}
 use Rattle.sets.specs.Member.{Has, Members, Sub, Meet}
 use Rattle.sets.specs.Listed.{In}
+use Rattle.sets.proofs.Decided.{same_decided, below_decided, both_decided, either_decided, not_decided}
 use Rattle.sets.proofs.Laws.{same_set, same_members, has_or_not, none_has, set_of}
+use Rattle.sets.proofs.Parts.{added_if, sub_decided}
 use Rattle.scheme.specs.declared.Work.{Work}
 use Rattle.scheme.specs.Task.{Task, work}
 use Rattle.scheme.specs.Reach.{Reach, Sufficient}
 use Rattle.scheme.specs.Orders.{Carried, finished, onward}
 use Rattle.scheme.specs.Landmarks.{Landmark, Trial, Grown, Drawn, Leaves}
-use Rattle.scheme.proofs.Decided.{added_if, same_decided, below_decided, sub_decided, both_decided, either_decided, not_decided}
 use Rattle.scheme.proofs.Reaches.{reach_unique, reach_exists, sufficient_by_reach, sufficient_grows, sufficient_or_not}
 use Rattle.scheme.proofs.Ordered.{placed_from, placed_plan, placed_exists}
 

@@ -3,7 +3,9 @@ use Rattle.std.proofs.Common.{◌≡◌, ℕ, ◌+◌, ◌<◌, ◌≤◌, ◌�
 use lib.Count.{ones}
 use Rattle.sets.specs.declared.Set.{Set}
 use Rattle.sets.specs.Member.{Has, Members}
+use Rattle.sets.proofs.Decided.{below_decided}
 use Rattle.sets.proofs.Laws.{count_within, count_without, none_has}
+use Rattle.sets.proofs.Parts.{part_of, less_one}
 use Rattle.std.proofs.lemmas.List.{take_more_set, append-nil, drop-set-lt, drop-drop}
 use Rattle.scheme.specs.declared.Work.{Work}
 use Rattle.scheme.specs.Task.{Task, work}
@@ -11,7 +13,6 @@ use Rattle.scheme.specs.Orders.{Placed, none_left, placing}
 use Rattle.scheme.specs.Ready.{NoneReady, FirstReady}
 use Rattle.scheme.specs.Placing.{Filled, Serves}
 use Rattle.scheme.proofs.Ordered.{placed_carried, placed_plan}
-use Rattle.scheme.proofs.Decided.{part_of, below_decided, same_decided, not_decided}
 
 -- the works of left that are held
 pub unplaced : (works : List Work) (left : Set) → (some : Set) × Members some (λ w. Has left w × (w < length works))
@@ -54,7 +55,7 @@ module _ {works : List Work} {chosen standing : Set} {from : List ℕ} where
   pub placing_full : {left held : Set} {n : ℕ} {to : List ℕ} →
       Placing works chosen standing from left held n to → length works ≤ n → NoneReady works left held (length works)
   placing_full {left} p full w lt has needs =
-      let less = part_of left (λ v. v ≡ w → ⊥) (λ v. not_decided (same_decided v w)) in
+      let less = less_one left w in
       omega (arith, p.fits, one_fewer works left less.0 w lt has less.1)
 
   pub placing_more : {left held less more : Set} {n w : ℕ} {to : List ℕ} →

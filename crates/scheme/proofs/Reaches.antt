@@ -2,11 +2,12 @@
 use Rattle.std.proofs.Common.{◌≡◌, ℕ, zero, suc, ◌+◌, ◌<◌, ◌⊎◌, List, [], ◌∷◌, length, inl, inr, ⊎_elim, arith}
 use Rattle.sets.specs.declared.Set.{Set}
 use Rattle.sets.specs.Member.{Sub, none}
+use Rattle.sets.proofs.Decided.{both_decided, not_decided}
 use Rattle.sets.proofs.Laws.{same_set, sub_le, lowest_below}
+use Rattle.sets.proofs.Parts.{union_of, union_larger, sub_decided}
 use Rattle.scheme.specs.declared.Work.{Work}
 use Rattle.scheme.specs.Task.{Task, work}
 use Rattle.scheme.specs.Reach.{Closed, Reach, Sufficient}
-use Rattle.scheme.proofs.Decided.{union_of, union_larger, sub_decided, both_decided, not_decided}
 
 -- the chosen works have one reach
 pub reach_unique : (works : List Work) (P : ℕ → Type 0) (s r r' : Set) → Reach works P s r → Reach works P s r' → r ≡ r'
