@@ -1,6 +1,5 @@
 -- The laws of membership.
-use Rattle.std.proofs.Common.{◌≡◌, ℕ, zero, suc, ◌+◌, ◌-◌, ◌^◌, ◌<◌, ◌≤◌, ◌⊎◌, sym, refl, ap, subst, inl, inr, ⊎_elim, w64, arith, pow_pos}
-use native.Mathlib.Decide.{dec_lt}
+use Rattle.std.proofs.Common.{◌≡◌, ℕ, zero, suc, ◌+◌, ◌-◌, ◌^◌, ◌<◌, ◌≤◌, ◌⊎◌, refl, subst, inl, inr, ⊎_elim, w64, arith, pow_pos}
 use lib.Bits.{bit_and, bit_or}
 use lib.Count.{ones, ones-le}
 use Rattle.std.specs.Int.{bit_at}
@@ -23,8 +22,7 @@ none_has k h = omega (arith, bit_at-zero k)
 -- a member of a set whose number is below 2 ^ n is below n
 pub has_below : (n : ℕ) (s : Set) (k : ℕ) → s.bits < 2 ^ n → Has s k → k < n
 unfolding Has
-has_below n s k h e =
-    elim (dec_lt k n) [ yes lt ↦ lt | no ge ↦ absurd (omega (arith, bit_at_above s.bits n k h (omega arith))) ]
+has_below n s k h e = grind (arith, bit_at_above)
 
 -- some number bounds every member
 pub members_end : (s : Set) (k : ℕ) → Has s k → k < s.bits
@@ -41,40 +39,27 @@ sub_le a b h =
 
 -- sets with the same members are the same
 pub same_set : (a b : Set) → Sub a b → Sub b a → a ≡ b
-same_set a b h g =
-    let e : a.bits ≡ b.bits = omega (arith, sub_le a b h, sub_le b a g) in ap (λ (n : ℕ). record { bits = n }) e
+same_set a b h g = grind (arith, sub_le)
 
 pub same_members : (P : ℕ → Type 0) (a b : Set) → Members a P → Members b P → a ≡ b
 same_members P a b h g = same_set a b (λ k y. (g k).1 ((h k).0 y)) (λ k y. (h k).1 ((g k).0 y))
 
 -- a proper subset is a smaller number
 pub proper_lt : (a b : Set) → Sub a b → (k : ℕ) → Has b k → (Has a k → ⊥) → a.bits < b.bits
-proper_lt a b h k in_b not_a =
-    elim (dec_lt a.bits b.bits) [
-      | yes lt ↦ lt
-      | no ge ↦
-          let e : b.bits ≡ a.bits = omega (arith, sub_le a b h) in
-          let P : Set → Type 0 = λ s. Has s k in
-          absurd (not_a (subst P (ap (λ (n : ℕ). record { bits = n }) e) in_b))
-    ]
+proper_lt a b h k in_b not_a = grind (arith, sub_le)
 
 -- ---- what can be decided
 
 -- the lowest number below n of which P holds, or none
-pub lowest_below : (P : ℕ → Type 0) → ((k : ℕ) → P k ⊎ (P k → ⊥)) → (n : ℕ) →
-    ((k : ℕ) × (k < n) × P k × ((j : ℕ) → j < k → P j → ⊥)) ⊎ ((k : ℕ) → k < n → P k → ⊥)
+abbrev pub LowestOrNone : (ℕ → Type 0) → ℕ → Type 0
+LowestOrNone P n = ((k : ℕ) × (k < n) × P k × ((j : ℕ) → j < k → P j → ⊥)) ⊎ ((k : ℕ) → k < n → P k → ⊥)
+
+lowest_more : (P : ℕ → Type 0) (n : ℕ) → P n ⊎ (P n → ⊥) → LowestOrNone P n → LowestOrNone P (suc n)
+lowest_more P n here before = grind arith
+
+pub lowest_below : (P : ℕ → Type 0) → ((k : ℕ) → P k ⊎ (P k → ⊥)) → (n : ℕ) → LowestOrNone P n
 lowest_below P decide zero = inr (λ k lt p. omega arith)
-lowest_below P decide (suc n) =
-    ⊎_elim (λ f. inl (f.0, omega (arith, f.1), f.2, f.3))
-    (λ none.
-    ⊎_elim (λ p. inl (n, omega arith, p, λ j lt. none j lt))
-    (λ not. inr (λ k lt p.
-    elim (dec_lt k n) [
-      | yes below ↦ none k below p
-      | no at ↦ let e : k ≡ n = omega arith in not (subst P e p)
-    ]))
-    (decide n))
-    (lowest_below P decide n)
+lowest_below P decide (suc n) = lowest_more P n (decide n) (lowest_below P decide n)
 
 -- a set has a lowest member, or none
 pub lowest_or_none : (s : Set) → ((k : ℕ) × Has s k × ((j : ℕ) → j < k → Has s j → ⊥)) ⊎ ((k : ℕ) → Has s k → ⊥)
@@ -107,17 +92,11 @@ meet_or_not a b =
 
 pub union_members : (a b : Set) → Members (record { bits = bit_or a.bits b.bits }) (λ k. Has a k ⊎ Has b k)
 unfolding Has
-union_members a b k = (
-  λ h. ⊎_elim inl (λ n. let low : bit_at a.bits k ≡ 0 = omega (arith, n) in inr (omega (arith, bit_at_or a.bits b.bits k))) (has_or_not a k),
-  ⊎_elim (λ h. omega (arith, bit_at_or a.bits b.bits k)) (λ h. omega (arith, bit_at_or a.bits b.bits k)),
-)
+union_members a b k = grind (arith, bit_at_or, has_or_not)
 
 pub intersection_members : (a b : Set) → Members (record { bits = bit_and a.bits b.bits }) (λ k. Has a k × Has b k)
 unfolding Has
-intersection_members a b k = (
-  λ h. (omega (arith, bit_at_and a.bits b.bits k), omega (arith, bit_at_and a.bits b.bits k)),
-  λ h. omega (arith, bit_at_and a.bits b.bits k),
-)
+intersection_members a b k = grind (arith, bit_at_and)
 
 pub minus_members : (a b : Set) → a.bits < 2 ^ 64 → b.bits < 2 ^ 64 →
     Members (record { bits = bit_and a.bits (2 ^ 64 - 1 - b.bits) }) (λ k. Has a k × (Has b k → ⊥))
@@ -132,32 +111,19 @@ minus_members a b ha hb k =
 -- the set with the one member k
 pub only_members : (k : ℕ) → Members (record { bits = 2 ^ k }) (λ j. j ≡ k)
 unfolding Has
-only_members k j = (
-  λ h. ⊎_elim (λ e. e) (λ ne. absurd (omega (arith, bit_at-pow_other k j ne))) (same_decided j k),
-  λ e. subst (λ (i : ℕ). bit_at (2 ^ k) i ≡ 1) (sym e) (bit_at-pow_same k),
-)
+only_members k j = grind (arith, bit_at-pow_other, bit_at-pow_same)
 
 -- A set of the numbers below n of which P holds, taken to m, one more: with n, or as it is.
 module _ (P : ℕ → Type 0) (n m : ℕ) (s : Set) (next : m ≡ n + 1) (below : Members s (λ k. (k < n) × P k)) where
   pub filled_with : (t : Set) → P n → Members t (λ k. Has s k ⊎ (k ≡ n)) → Members t (λ k. (k < m) × P k)
-  filled_with t here adds k = (
-    λ h. ⊎_elim (λ y. let p = (below k).0 y in (omega (arith, p.0), p.1)) (λ e. (omega arith, subst P (sym e) here)) ((adds k).0 h),
-    λ p. elim (dec_lt k n)
-        [ yes lt ↦ (adds k).1 (inl ((below k).1 (lt, p.1))) | no ge ↦ (adds k).1 (inr (omega (arith, p.0))) ],
-  )
+  filled_with t here adds k = grind arith
 
   pub filled_over : (P n → ⊥) → Members s (λ k. (k < m) × P k)
-  filled_over not k = (
-    λ h. let p = (below k).0 h in (omega (arith, p.0), p.1),
-    λ p. elim (dec_lt k n) [
-      | yes lt ↦ (below k).1 (lt, p.1)
-      | no ge ↦ let e : k ≡ n = omega (arith, p.0) in absurd (not (subst P e p.1))
-    ],
-  )
+  filled_over not k = grind arith
 
 -- an added number that can be a member is one
 pub added_member : (s t : Set) (k : ℕ) → k < 64 → Members t (λ j. Has s j ⊎ ((j ≡ k) × (k < 64))) → Members t (λ j. Has s j ⊎ (j ≡ k))
-added_member s t k lt m j = (λ h. ⊎_elim inl (λ p. inr p.0) ((m j).0 h), ⊎_elim (λ h. (m j).1 (inl h)) (λ e. (m j).1 (inr (e, lt))))
+added_member s t k lt m j = grind arith
 
 -- There is a set of the numbers below n of which P holds.
 pub set_of : (P : ℕ → Type 0) → ((k : ℕ) → P k ⊎ (P k → ⊥)) → (n : ℕ) → (s : Set) × Members s (λ k. (k < n) × P k)
@@ -177,10 +143,7 @@ set_of P decide (suc n) =
 -- the set of the numbers below n
 pub below_members : (n : ℕ) → Members (record { bits = 2 ^ n - 1 }) (λ k. k < n)
 unfolding Has
-below_members n k = (
-  λ h. elim (dec_lt k n) [ yes lt ↦ lt | no ge ↦ absurd (omega (arith, bit_at_ones_above n k (omega arith))) ],
-  bit_at_ones n k,
-)
+below_members n k = grind (arith, bit_at_ones_above, bit_at_ones)
 
 -- ---- how many members a set has
 
@@ -200,9 +163,4 @@ count_without s t k y m = ones_fewer k s.bits t.bits y unset others
     unset = ⊎_elim (λ z. absurd (((m k).0 z).1 refl)) (λ not. omega (arith, not)) (has_or_not t k)
 
     others : (j : ℕ) → (j ≡ k → ⊥) → bit_at t.bits j ≡ bit_at s.bits j
-    others j ne =
-        ⊎_elim (λ z. let low = (m j).1 (z, ne) in omega arith)
-        (λ not.
-        let out : Has t j → ⊥ = λ z. not ((m j).0 z).0 in
-        omega (arith, not, out))
-        (has_or_not s j)
+    others j ne = grind arith

@@ -25,8 +25,8 @@ pub set_more :
     Members s (λ k. In k ys × (k < m)) →
     Members t (λ k. Has s k ⊎ ((k ≡ x) × (x < m))) →
     Members t (λ k. In k (ys ++ (x ∷ [])) × (k < m))
-set_more ys x m s t before adds k = (
-  λ y. ⊎_elim (λ z. let p = (before k).0 z in (in_front k ys (x ∷ []) p.0, p.1)) (λ p. (in_back k ys (x ∷ []) (inl p.0), omega (arith, p)))
-      ((adds k).0 y),
-  λ p. (adds k).1 (⊎_elim (λ y. inl ((before k).1 (y, p.1))) (⊎_elim (λ e. inr (e, omega (arith, p.1))) (λ z. absurd z)) (in_append k ys (x ∷ []) p.0)),
-)
+set_more ys x m s t before adds k =
+    let parted = in_append k ys (x ∷ []) in
+    let front = in_front k ys (x ∷ []) in
+    let back = in_back k ys (x ∷ []) in
+    grind (arith, before, adds)
