@@ -140,14 +140,7 @@ pub placed_plan :
     Sufficient k (Has s) →
     ((w : ℕ) → Has s w → Has bars w → ⊥) →
     Plan k bars order
-placed_plan {k} p enough apart =
-    let c = placed_carried p in
-    record {
-      unbarred = λ w y. apart w (placed_from p w y);
-      last = c.0;
-      carried = c.1;
-      reached = reach_of_sufficient k enough c.2;
-    }
+placed_plan {k} p enough apart = grind (arith, placed_carried, placed_from, reach_of_sufficient)
 
 -- a set has one order
 pub placed_unique :

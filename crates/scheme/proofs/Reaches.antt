@@ -11,8 +11,7 @@ use Rattle.scheme.specs.Reach.{Closed, Reach, Sufficient}
 
 -- the chosen works have one reach
 pub reach_unique : (works : List Work) (P : ℕ → Type 0) (s r r' : Set) → Reach works P s r → Reach works P s r' → r ≡ r'
-reach_unique works P s r r' h g =
-    same_set r r' (h.smallest r' g.from g.closed) (g.smallest r h.from h.closed)
+reach_unique works P s r r' h g = grind (arith, same_set)
 
 -- with more works chosen and more items standing, the reach holds at least as much
 pub reach_grows :
@@ -22,8 +21,7 @@ pub reach_grows :
     Reach works P s r →
     Reach works Q s' r' →
     Sub r r'
-reach_grows {r'} more from h g =
-    h.smallest r' (λ i y. g.from i (from i y)) (λ w held p. g.closed w held (more w held p))
+reach_grows {r'} more from h g = grind arith
 
 -- ---- sufficient works
 
