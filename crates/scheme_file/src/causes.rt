@@ -1,8 +1,9 @@
 //! Why a file or a call is refused.
 ghost use Rattle.std.specs.Prelude.{◌≡◌};
-ghost use Rattle.scheme_file.specs.declared.causes.Cause.TheVariants.{Refused};
+ghost use Rattle.scheme_file.specs.declared.causes.Cause.TheVariants.{Refused, UnknownKind};
 ghost use Rattle.scheme_file.specs.Causes.{cause_number};
 
+use crate::kinds;
 use scheme::Refusal;
 
 /// Why a file or a call is refused.
@@ -49,6 +50,14 @@ impl From<Refusal> for Cause {
 
     fn from(refusal: Refusal) -> Cause {
         Self::Refused(refusal)
+    }
+}
+
+impl From<kinds::UnknownKind> for Cause {
+    ghost from_gives = { λ _ cause. cause ≡ UnknownKind };
+
+    fn from(_: kinds::UnknownKind) -> Cause {
+        Cause::UnknownKind
     }
 }
 

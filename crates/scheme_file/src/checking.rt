@@ -29,7 +29,7 @@ fn frame(rest: &[u8]) -> Result<(Kind, &[u8]), Cause>
     let [k0, k1, body @ ..] = &after[0..size] else {
         return Err(Cause::UnknownKind);
     };
-    let kind = Kind::named(u16::from_le_bytes([*k0, *k1])).ok_or(Cause::UnknownKind)?;
+    let kind = Kind::try_from(u16::from_le_bytes([*k0, *k1]))?;
     Ok((kind, body))
 }
 
@@ -37,12 +37,11 @@ fn frame(rest: &[u8]) -> Result<(Kind, &[u8]), Cause>
 pub fn readable(name: &[u8]) -> Result<(), Cause>
     ensures { MatchResult result (λ _. Text name.now) (λ c. (c ≡ NameByte) × (Text name.now → ⊥)) }
 {
-    for b in name {
-        if *b < 32 || *b > 126 {
-            return Err(Cause::NameByte);
-        }
+    if name.iter().all(|b| (32..=126).contains(b)) {
+        Ok(())
+    } else {
+        Err(Cause::NameByte)
     }
-    Ok(())
 }
 
 /// Refuses an item that the scheme cannot hold.

@@ -28,7 +28,7 @@ fn put_frame(out: &mut [u8], at: usize, kind: Kind, len: usize) -> usize
     ensures { Wrote out.old at (le 2 (2 + len) ++ le 2 (code_of kind)) out.new result }
 {
     let at = put(out, at, &word_bytes((2 + len) as u16));
-    put(out, at, &word_bytes(kind.code()))
+    put(out, at, &word_bytes(kind.into()))
 }
 
 /// Puts a name of the text.
