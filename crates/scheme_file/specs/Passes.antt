@@ -7,6 +7,7 @@ use Rattle.scheme.specs.declared.Work.{Work}
 use Rattle.scheme_file.specs.declared.kinds.Kind.TheVariants.{Head}
 use Rattle.scheme_file.specs.declared.stages.Stage.TheVariants.{Closed}
 use Rattle.scheme_file.specs.declared.places.Place.{Place}
+use Rattle.scheme_file.specs.declared.putting.Output.{Output}
 use Rattle.scheme_file.specs.declared.rows.ItemRow.{ItemRow}
 use Rattle.scheme_file.specs.declared.rows.WorkRow.{WorkRow}
 use Rattle.scheme_file.specs.Bytes.{le, value}
@@ -154,3 +155,13 @@ pub record Wrote (was : List ℕ) (at : ℕ) (xs out : List ℕ) (next : ℕ) : 
   pub same : out ≡ take at was ++ (xs ++ drop (at + length xs) was)
   pub end : next ≡ at + length xs
   pub room : at + length xs ≤ length was
+
+-- there is room for n more bytes
+abbrev pub Room : Output → ℕ → Type 0
+Room out n = out.at + n ≤ length out.bytes.now
+
+-- xs are put behind those that were put, into the same lent bytes and beside the same text
+pub record Put (was : Output) (xs : List ℕ) (out : Output) : Type 0 where
+  pub wrote : Wrote was.bytes.now was.at xs out.bytes.now out.at
+  pub lent : out.bytes.ghost_name ≡ was.bytes.ghost_name
+  pub text : out.text.now ≡ was.text.now

@@ -10,7 +10,7 @@ ghost use Rattle.scheme_file.specs.Rules.{Broken, ByRules, Text, after, body_in,
 
 use crate::causes::{Cause, Fault};
 use crate::kinds::Kind;
-use crate::numbers::long;
+use crate::numbers::number_at;
 use crate::places::Place;
 use crate::stages::Stage;
 use scheme::{Refusal, Scheme};
@@ -93,7 +93,7 @@ fn work(place: Place, body: &[u8]) -> Result<Place, Cause>
     ensures { ByRules (field_rules place Work body.now) result (λ p. p ≡ after place Work body.now) }
 {
     readable(&body[20..])?;
-    enterable(place.works, long(body, 8))?;
+    enterable(place.works, number_at(body, 8))?;
     Ok(Place {
         stage: Stage::Works,
         least: place.least,

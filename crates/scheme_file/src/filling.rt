@@ -7,7 +7,7 @@ ghost use Rattle.scheme_file.specs.Contents.{Reads};
 ghost use Rattle.scheme_file.specs.Passes.{Entering, Itemed, RowAt, WorkAt};
 ghost use Rattle.scheme_file.specs.Rules.{size};
 
-use crate::numbers::{long, word};
+use crate::numbers::number_at;
 use crate::rows::{Counts, ItemRow, Name, WorkRow};
 use scheme::{Scheme, Work};
 use sets::Set;
@@ -23,7 +23,7 @@ fn item_row(bytes: &[u8], at: usize) -> ItemRow
         number: bytes[at + 4],
         name: Name {
             at: at + 5,
-            len: word(bytes, at) as usize - 3,
+            len: number_at::<2, u16>(bytes, at) as usize - 3,
         },
     }
 }
@@ -49,8 +49,8 @@ fn work_at(bytes: &[u8], at: usize) -> Work
     ensures { WorkAt bytes.now at result }
 {
     Work {
-        needs: Set::from_bits(long(bytes, at + 4)),
-        gives: Set::from_bits(long(bytes, at + 12)),
+        needs: Set::from_bits(number_at(bytes, at + 4)),
+        gives: Set::from_bits(number_at(bytes, at + 12)),
     }
 }
 
@@ -60,11 +60,11 @@ fn work_row(bytes: &[u8], at: usize) -> WorkRow
     ensures { RowAt bytes.now at result }
 {
     WorkRow {
-        pounds: word(bytes, at + 20) as u64,
-        hours: word(bytes, at + 22) as u64,
+        pounds: number_at::<2, u16>(bytes, at + 20) as u64,
+        hours: number_at::<2, u16>(bytes, at + 22) as u64,
         name: Name {
             at: at + 24,
-            len: word(bytes, at) as usize - 22,
+            len: number_at::<2, u16>(bytes, at) as usize - 22,
         },
     }
 }
@@ -131,6 +131,6 @@ pub fn fill(
     scheme.open();
     let at = fill_items(bytes, counts.items, items);
     let at = fill_works(bytes, at, counts.works, scheme, works);
-    stand_all(scheme, Set::from_bits(long(bytes, at + 4)));
-    want_all(scheme, Set::from_bits(long(bytes, at + 16)));
+    stand_all(scheme, Set::from_bits(number_at(bytes, at + 4)));
+    want_all(scheme, Set::from_bits(number_at(bytes, at + 16)));
 }

@@ -14,7 +14,7 @@ pub returns-in_err-enterable : goal.returns-in_err-enterable
 returns-in_err-enterable c =
     let p = err_from_is_err_and c.from_residual-in_err-enterable.result c.from_residual-in_err-enterable.ensures.1 in
     let text = rw take_rest at c.in_ok-readable.ensures in
-    let value = c.long.ensures.value in
+    let value = c.number_at.ensures.value in
     let failed = rw value at c.in_err-enterable.ensures in
     rw (p.1, p.2)
     (inr (
@@ -32,5 +32,5 @@ returns-in_err-enterable c =
 pub returns : goal.returns
 returns c =
     let text = rw take_rest at c.in_ok-readable.ensures in
-    let can = rw c.long.ensures.value at c.in_ok-enterable.ensures in
+    let can = rw c.number_at.ensures.value at c.in_ok-enterable.ensures in
     ((tt, (text, (tt, (can.0, (can.1, tt))))), refl)

@@ -23,8 +23,8 @@ overflow_add-at c =
     let t = works_end (take m rows) _ _ m (length-take-le m rows (omega (arith, c.requires.0))) c.fill_works-at.ensures.filled in
     omega (arith, t.room, c.well_formed)
 
-pub long-requires : goal.long-requires
-long-requires c =
+pub number_at-requires : goal.number_at-requires
+number_at-requires c =
     let m = c.args.counts.works in
     let rows = c.fill_works-at.new.rows in
     let t = works_end (take m rows) _ _ m (length-take-le m rows (omega (arith, c.requires.0))) c.fill_works-at.ensures.filled in
@@ -37,8 +37,8 @@ overflow_add-at-2 c =
     let t = works_end (take m rows) _ _ m (length-take-le m rows (omega (arith, c.requires.0))) c.fill_works-at.ensures.filled in
     omega (arith, t.room, c.well_formed)
 
-pub long-requires-2 : goal.long-requires-2
-long-requires-2 c =
+pub number_at-requires-2 : goal.number_at-requires-2
+number_at-requires-2 c =
     let m = c.args.counts.works in
     let rows = c.fill_works-at.new.rows in
     let t = works_end (take m rows) _ _ m (length-take-le m rows (omega (arith, c.requires.0))) c.fill_works-at.ensures.filled in
@@ -58,8 +58,8 @@ returns c =
       read =
           subst (λ (x : Task). Reads c.args.bytes.now x (take m rows) (take c.args.counts.items c.fill_items-at.new.rows)) (sym k)
           (whole_read listed.4 works.4 t s w
-          (ap (le 8) c.from_bits.ensures ∙ c.long.ensures.bytes ∙ t.first)
-          (ap (le 8) c.from_bits-2.ensures ∙ c.long-2.ensures.bytes ∙ t.second)
+          (ap (le 8) c.from_bits.ensures ∙ c.number_at.ensures.bytes ∙ t.first)
+          (ap (le 8) c.from_bits-2.ensures ∙ c.number_at-2.ensures.bytes ∙ t.second)
           (omega (arith, c.from_bits.ensures)) (omega (arith, c.from_bits-2.ensures)));
       works = c.fill_works-at.ensures.later;
       items = c.fill_items-at.ensures.later;

@@ -4,9 +4,9 @@ use Rattle.std.proofs.lemmas.List.{get_or-map, take_all}
 use Rattle.scheme_file.specs.declared.rows.ItemRow.{ItemRow}
 use Rattle.scheme_file.specs.Contents.{item_in}
 use Rattle.scheme_file.specs.Format.{Record, bytes_of, encode, item_record}
-use Rattle.scheme_file.proofs.Puts.{record_room, record_step, wrote_as, wrote_length, wrote_none}
+use Rattle.scheme_file.proofs.Puts.{put_as, put_none, record_room, record_step}
 use Rattle.scheme_file.proofs.Vets.{items_at, name_size}
-use Rattle.scheme_file.proofs.putting.put_items.Goals as goal
+use Rattle.scheme_file.proofs.putting.Output.items.Goals as goal
 
 abbrev none : ItemRow
 none = record { number = 0; name = record { at = 0; len = 0 } }
@@ -16,7 +16,9 @@ abbrev all : List ItemRow → List ℕ → List Record
 all items text = map item_record (map (item_in text) items)
 
 -- each is that of its row
-at_row : (items : List ItemRow) (text : List ℕ) (i : ℕ) → i < length items →
+at_row :
+    (items : List ItemRow) (text : List ℕ) (i : ℕ) →
+    i < length items →
     (i < length (all items text)) × (item_record (item_in text (get_or items i none)) ≡ get_or (all items text) i (item_record (item_in text none)))
 at_row items text i lt =
     let named = map (item_in text) items in
@@ -27,32 +29,32 @@ at_row items text i lt =
     )
 
 pub loop-row-init : goal.loop-row-init
-loop-row-init c = wrote_none c.args.out.now c.args.from (omega (arith, c.requires.1))
+loop-row-init c = put_none c.args.self.now (omega (arith, c.requires.1))
 
-pub put_item-at-requires : goal.put_item-at-requires
-put_item-at-requires c =
+pub item-requires : goal.item-requires
+item-requires c =
     let items = c.args.items.now in
-    let text = c.args.text.now in
+    let text = c.args.self.now.text.now in
     let i = c.loop-row.row-index in
     let row = get_or items i none in
     let fits = items_at items text i none c.loop-row-test.true c.requires.0 in
     let long = name_size text row.name fits.lies in
     let r = at_row items text i c.loop-row-test.true in
-    let room = record_room (all items text) i (item_record (item_in text none)) r.0 c.args.from c.loop-row.at (length c.args.out.now)
-    c.loop-row.invariant.end c.requires.1
-    in
-    (fits.lies, omega (arith, fits.name.short), omega (arith, room, ap (λ x. length (encode x)) r.1, wrote_length c.loop-row.invariant))
+    let room = record_room (all items text) i (item_record (item_in text none)) r.0 c.loop-row.invariant c.requires.1 in
+    rw c.loop-row.invariant.text (fits.lies, omega (arith, fits.name.short), omega (arith, room, ap (λ x. length (encode x)) r.1))
 
 pub loop-row-preserved : goal.loop-row-preserved
 loop-row-preserved c =
     let items = c.args.items.now in
-    let text = c.args.text.now in
+    let text = c.args.self.now.text.now in
     let i = c.loop-row.row-index in
     let r = at_row items text i c.loop-row-test.true in
-    record_step (all items text) i (item_record (item_in text none)) r.0 c.loop-row.invariant (wrote_as (ap encode r.1) c.put_item-at.ensures)
+    let same = ap (λ t. encode (item_record (item_in t (get_or items i none)))) c.loop-row.invariant.text ∙ ap encode r.1 in
+    record_step (all items text) i (item_record (item_in text none)) r.0 c.loop-row.invariant (put_as same c.item.ensures)
 
 pub returns : goal.returns
 returns c =
-    let rs = all c.args.items.now c.args.text.now in
-    let l = length-map c.args.items.now (item_in c.args.text.now) in
-    wrote_as (ap bytes_of (take_all c.loop-row.row-index rs (omega (arith, l, length-map (map (item_in c.args.text.now) c.args.items.now) item_record)))) c.loop-row.invariant
+    let items = c.args.items.now in
+    let text = c.args.self.now.text.now in
+    let l = length-map items (item_in text) in
+    put_as (ap bytes_of (take_all c.loop-row.row-index (all items text) (omega (arith, l, length-map (map (item_in text) items) item_record)))) c.loop-row.invariant
