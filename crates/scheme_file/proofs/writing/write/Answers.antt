@@ -1,6 +1,5 @@
 use Rattle.std.proofs.Common.{◌≡◌, ℕ, ◌≤◌, List, map, length, refl, ap, ◌∙◌, ap₂, inr, arith, rules}
 use Rattle.sets.specs.declared.Set.{Set}
-use Rattle.scheme.specs.declared.Work.{Work}
 use Rattle.scheme.specs.Task.{Task, task_of}
 use Rattle.scheme_file.specs.declared.kinds.Kind.TheVariants.{Standing, Wanted}
 use Rattle.scheme_file.specs.declared.rows.ItemRow.{ItemRow}

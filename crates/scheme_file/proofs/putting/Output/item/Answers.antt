@@ -1,4 +1,4 @@
-use Rattle.std.proofs.Common.{◌≡◌, List, ℕ, ◌+◌, ◌∷◌, ap, arith}
+use Rattle.std.proofs.Common.{◌≡◌, ◌+◌, ◌∷◌, ap, arith}
 use Rattle.scheme_file.specs.declared.kinds.Kind.TheVariants.{Item}
 use Rattle.scheme_file.specs.Contents.{bytes_at}
 use Rattle.scheme_file.proofs.Puts.{frame_body, put_as, put_more}

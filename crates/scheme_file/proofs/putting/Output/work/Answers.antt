@@ -1,4 +1,4 @@
-use Rattle.std.proofs.Common.{◌≡◌, List, ℕ, ◌+◌, ap, arith}
+use Rattle.std.proofs.Common.{◌≡◌, ◌+◌, ap, arith}
 use Rattle.scheme_file.specs.declared.kinds.Kind.TheVariants.{Work}
 use Rattle.scheme_file.specs.Bytes.{le}
 use Rattle.scheme_file.specs.Contents.{bytes_at, entry_in}

@@ -1,4 +1,4 @@
-use Rattle.std.proofs.Common.{◌≡◌, ℕ, ◌<◌, List, map, length, take, get_or, refl, sym, ap, ap₂, ◌∙◌, arith}
+use Rattle.std.proofs.Common.{◌≡◌, ℕ, ◌<◌, List, map, length, get_or, sym, ap, ap₂, ◌∙◌, arith}
 use lib.ListN.{length-map}
 use Rattle.std.proofs.lemmas.List.{get_or-map, length_push, take_all}
 use Rattle.std.proofs.lemmas.Slice.Zip.{zip_end, zip_turn}
@@ -7,9 +7,8 @@ use Rattle.scheme.specs.Task.{idle}
 use Rattle.scheme_file.specs.declared.rows.WorkRow.{WorkRow}
 use Rattle.scheme_file.specs.Contents.{entries, entry_in}
 use Rattle.scheme_file.specs.Format.{Record, bytes_of, encode, work_record}
-use Rattle.scheme_file.specs.Passes.{Put}
 use Rattle.scheme_file.proofs.Fills.{length_entries}
-use Rattle.scheme_file.proofs.Puts.{get_or_entries, put_as, put_none, record_room, record_step}
+use Rattle.scheme_file.proofs.Puts.{get_or_entries, put_as, record_room, record_step}
 use Rattle.scheme_file.proofs.Vets.{name_size, works_at}
 use Rattle.scheme_file.proofs.putting.Output.works.Goals as goal
 

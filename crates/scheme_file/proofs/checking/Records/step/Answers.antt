@@ -1,7 +1,7 @@
 use Rattle.std.proofs.Common.{◌≡◌, ℕ, ◌+◌, List, ◌++◌, length, drop, sym, ap, subst, arith, length-append}
 use Rattle.scheme_file.specs.Format.{encode}
 use Rattle.scheme_file.proofs.Frames.{framed}
-use Rattle.scheme_file.proofs.checking.step.Goals as goal
+use Rattle.scheme_file.proofs.checking.Records.step.Goals as goal
 
 pub returns : goal.returns
 returns c =

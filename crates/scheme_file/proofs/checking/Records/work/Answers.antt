@@ -2,7 +2,7 @@ use Rattle.std.proofs.Common.{refl, ap, inl, inr, ⊎_elim}
 use Rattle.std.proofs.lemmas.Result.{err_from_is_err_and}
 use Rattle.std.proofs.lemmas.List.{take_rest}
 use Rattle.scheme_file.specs.declared.causes.Cause.TheVariants.{Refused}
-use Rattle.scheme_file.proofs.checking.work.Goals as goal
+use Rattle.scheme_file.proofs.checking.Records.work.Goals as goal
 
 pub returns-in_err-readable : goal.returns-in_err-readable
 returns-in_err-readable c =
