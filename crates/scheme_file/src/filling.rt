@@ -8,7 +8,7 @@ ghost use Rattle.scheme_file.specs.Passes.{Entering, Itemed, RowAt, WorkAt};
 ghost use Rattle.scheme_file.specs.Rules.{size};
 
 use crate::numbers::number_at;
-use crate::rows::{Counts, ItemRow, Name, WorkRow};
+use crate::rows::{ItemRow, Name, WorkRow};
 use scheme::{Scheme, Work};
 use sets::Set;
 
@@ -28,16 +28,14 @@ fn item_row(bytes: &[u8], at: usize) -> ItemRow
     }
 }
 
-/// Fills the rows of `count` items; answers the offset after them.
-fn fill_items(bytes: &[u8], count: usize, rows: &mut [ItemRow]) -> usize
-    requires { (count ≤ length rows.old) × ((m : ℕ) × Itemed bytes.now [] 4 count m) }
-    ensures filled { (m : ℕ) → Itemed bytes.now [] 4 count m → Itemed bytes.now (take count rows.new) result count m }
-    ensures later { drop count rows.new ≡ drop count rows.old }
+/// Fills the rows of the items; answers the offset after them.
+fn fill_items(bytes: &[u8], rows: &mut [ItemRow]) -> usize
+    requires { (m : ℕ) × Itemed bytes.now [] 4 (length rows.old) m }
+    ensures { (m : ℕ) → Itemed bytes.now [] 4 (length rows.old) m → Itemed bytes.now rows.new result (length rows.old) m }
 {
     let mut at = 4;
-    for i in 0..count {
-        let row = item_row(bytes, at);
-        rows[i] = row;
+    for row in rows.iter_mut() {
+        *row = item_row(bytes, at);
         at = row.name.at + row.name.len;
     }
     at
@@ -69,25 +67,18 @@ fn work_row(bytes: &[u8], at: usize) -> WorkRow
     }
 }
 
-/// Enters `count` works and fills their rows; answers the offset after them.
-fn fill_works(
-    bytes: &[u8],
-    from: usize,
-    count: usize,
-    scheme: &mut Scheme,
-    rows: &mut [WorkRow],
-) -> usize
-    requires { (count ≤ length rows.old) × ((task_of scheme.old).works ≡ []) × Entering bytes.now from [] [] from count }
-    ensures filled { Entering bytes.now from (task_of scheme.new).works (take count rows.new) result count }
+/// Enters the works and fills their rows; answers the offset after them.
+fn fill_works(bytes: &[u8], from: usize, scheme: &mut Scheme, rows: &mut [WorkRow]) -> usize
+    requires { ((task_of scheme.old).works ≡ []) × Entering bytes.now from [] [] from (length rows.old) }
+    ensures filled { Entering bytes.now from (task_of scheme.new).works rows.new result (length rows.old) }
     ensures sets { task_of scheme.new ≡ with_works (task_of scheme.old) (task_of scheme.new).works }
-    ensures later { drop count rows.new ≡ drop count rows.old }
+    ensures room { result + 28 ≤ length bytes.now }
 {
     let mut at = from;
-    for i in 0..count {
+    for row in rows.iter_mut() {
         // The check has ruled a refusal out.
         let _ = scheme.enter(work_at(bytes, at));
-        let row = work_row(bytes, at);
-        rows[i] = row;
+        *row = work_row(bytes, at);
         at = row.name.at + row.name.len;
     }
     at
@@ -115,22 +106,14 @@ fn want_all(scheme: &mut Scheme, items: Set)
     }
 }
 
-/// Fills in bytes that passed the check and have that many rows.
-pub fn fill(
-    bytes: &[u8],
-    counts: Counts,
-    scheme: &mut Scheme,
-    works: &mut [WorkRow],
-    items: &mut [ItemRow],
-)
-    requires { (counts.works ≤ length works.old) × (counts.items ≤ length items.old) × Itemed bytes.now [] 4 counts.items counts.works }
-    ensures read { Reads bytes.now (task_of scheme.new) (take counts.works works.new) (take counts.items items.new) }
-    ensures works { drop counts.works works.new ≡ drop counts.works works.old }
-    ensures items { drop counts.items items.new ≡ drop counts.items items.old }
+/// Fills in bytes that passed the check, with as many rows as they have.
+pub fn fill(bytes: &[u8], scheme: &mut Scheme, works: &mut [WorkRow], items: &mut [ItemRow])
+    requires { Itemed bytes.now [] 4 (length items.old) (length works.old) }
+    ensures { Reads bytes.now (task_of scheme.new) works.new items.new }
 {
     scheme.open();
-    let at = fill_items(bytes, counts.items, items);
-    let at = fill_works(bytes, at, counts.works, scheme, works);
+    let at = fill_items(bytes, items);
+    let at = fill_works(bytes, at, scheme, works);
     stand_all(scheme, Set::from_bits(number_at(bytes, at + 4)));
     want_all(scheme, Set::from_bits(number_at(bytes, at + 16)));
 }

@@ -38,6 +38,11 @@ pub fn read(
             cause: Cause::Rows,
         });
     }
-    fill(bytes, counts, scheme, works, items);
+    fill(
+        bytes,
+        scheme,
+        &mut works[..counts.works],
+        &mut items[..counts.items],
+    );
     Ok(counts)
 }
