@@ -59,10 +59,10 @@ impl<'a> Output<'a> {
 
     /// Puts a name of the text.
     fn name(&mut self, name: Name)
-        requires { Lies self.old.text.now name × Room self.old name.len }
+        requires { Room self.old name.len }
         ensures { Put self.old (bytes_at self.old.text.now name) self.new }
     {
-        self.put(&self.text[name.at..name.at + name.len]);
+        self.put(name.in_text(self.text));
     }
 
     /// Puts a record that has no body.

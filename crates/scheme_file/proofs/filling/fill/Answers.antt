@@ -1,4 +1,4 @@
-use Rattle.std.proofs.Common.{length, refl, sym, ap, ◌∙◌, subst, arith}
+use Rattle.std.proofs.Common.{length, sym, ap, ◌∙◌, subst, arith}
 use Rattle.scheme.specs.Edits.{with_wanted}
 use Rattle.scheme.specs.Task.{Task}
 use Rattle.scheme_file.specs.Bytes.{le}
