@@ -1,4 +1,3 @@
-mod Cuts
 mod Digits
 mod Frames
 mod Goings

@@ -82,7 +82,7 @@ impl<'a> Records<'a> {
     {
         Records {
             bytes,
-            place: Place::start(),
+            place: Place::default(),
             at: 0,
             index: 0,
         }
