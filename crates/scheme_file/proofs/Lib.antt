@@ -7,7 +7,6 @@ mod Adds
 mod Wholes
 mod Vets
 pub mod Puts
-mod Rewrites
 mod Keeping
 mod Uniques
 mod OneFault

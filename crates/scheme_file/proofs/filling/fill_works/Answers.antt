@@ -58,12 +58,8 @@ loop-row-preserved c =
       k ∙ ap (λ (x : Task). with_works x (works ++ w ∷ [])) c.loop-row.invariant.1 ∙ ap (with_works (task_of c.args.scheme.now)) grown,
     )
 
-pub returns : goal.returns
-returns c =
+pub returns-clause-room : goal.returns-clause-room
+returns-clause-room c =
     let all : length c.loop-row.rows ≤ c.loop-row.row-index = omega arith in
     let filled = rw take_all at c.loop-row.invariant.0 in
-    record {
-      filled = filled;
-      sets = c.loop-row.invariant.1;
-      room = (works_end c.loop-row.rows c.args.from c.loop-row.at (length c.args.rows.now) (omega arith) filled).room;
-    }
+    (works_end c.loop-row.rows c.args.from c.loop-row.at (length c.args.rows.now) (omega arith) filled).room

@@ -10,29 +10,22 @@ use Rattle.scheme_file.proofs.Uniques.{file_faultless, reads_only}
 use Rattle.scheme_file.proofs.Wholes.{reads_bound, whole_itemed, whole_short, whole_some}
 use Rattle.scheme_file.proofs.reading.read.Goals as goal
 
-pub overflow_sub-result : goal.overflow_sub-result
-overflow_sub-result c = (whole_some c.in_ok-end.ensures).0
-
 pub overflow_sub-result-then-works-counts : goal.overflow_sub-result-then-works-counts
 overflow_sub-result-then-works-counts c = (whole_some c.in_ok-end.ensures).1
 
-pub returns-then-works-counts : goal.returns-then-works-counts
-returns-then-works-counts c =
-    let whole = c.in_ok-end.ensures in
-    let some = whole_some whole in
-    record {
-      answer = (
-        inr (whole_short whole _ _ (⊎_elim inl (λ h. inr h.1) c.then-works-counts.either) _ (omega (arith, some.0)) (omega (arith, some.1)) refl),
-        refl,
-        refl,
-        refl,
-      );
-      only = λ contents readable same. refl;
-      short = λ contents readable same.
-          ⊎_elim (λ h. inl (omega (arith, h, whole.sane.works))) (λ h. inr (omega (arith, h.1, whole.sane.items, whole.sane.least)))
-          c.then-works-counts.either;
-      sole = λ g faulty. ap Err (short_alone _ _ _ whole (omega (arith, some.0)) (omega (arith, some.1)) refl g faulty);
-    }
+pub returns-then-works-counts-clause-answer : goal.returns-then-works-counts-clause-answer
+returns-then-works-counts-clause-answer c =
+    let some = whole_some c.in_ok-end.ensures in (
+      inr (whole_short c.in_ok-end.ensures _ _ (⊎_elim inl (λ h. inr h.1) c.then-works-counts.either) _ (omega (arith, some.0)) (omega (arith, some.1)) refl),
+      refl,
+      refl,
+      refl,
+    )
+
+pub returns-then-works-counts-clause-sole : goal.returns-then-works-counts-clause-sole
+returns-then-works-counts-clause-sole c g faulty =
+    let some = whole_some c.in_ok-end.ensures in
+    ap Err (short_alone _ _ _ c.in_ok-end.ensures (omega (arith, some.0)) (omega (arith, some.1)) refl g faulty)
 
 pub returns-in_err-end : goal.returns-in_err-end
 returns-in_err-end c =

@@ -1,6 +1,6 @@
-use Rattle.std.proofs.Common.{◌+◌, ◌≤◌, length, get_or, take, sym, ◌∙◌, ap₂, subst, arith}
+use Rattle.std.proofs.Common.{◌+◌, get_or, take, sym, ◌∙◌, ap₂, subst, arith}
 use Rattle.std.proofs.lemmas.Result.{err_from_is_err_and}
-use Rattle.std.proofs.lemmas.List.{take_all, take_more}
+use Rattle.std.proofs.lemmas.List.{take_more}
 use Rattle.scheme_file.specs.declared.rows.ItemRow.{ItemRow}
 use Rattle.scheme_file.specs.Passes.{ItemFits}
 use Rattle.scheme_file.proofs.Vets.{items_at, items_push, name_size}
@@ -39,8 +39,3 @@ loop-row-preserved c =
       omega (arith, c.loop-row.invariant.4, one.above),
       omega (arith, one.low),
     )
-
-pub returns : goal.returns
-returns c =
-    let all : length c.args.items.now ≤ c.loop-row.row-index = omega arith in
-    (rw take_all at c.loop-row.invariant.0, rw take_all at c.loop-row.invariant.2, omega (arith, c.loop-row.invariant.3, c.loop-row.invariant.4, c.loop-row.invariant.5))

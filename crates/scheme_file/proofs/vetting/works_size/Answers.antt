@@ -1,6 +1,6 @@
 use Rattle.std.proofs.Common.{◌+◌, get_or, take, ◌∙◌, ap₂, arith}
 use Rattle.std.proofs.lemmas.Result.{err_from_is_err_and}
-use Rattle.std.proofs.lemmas.List.{take_all, take_more}
+use Rattle.std.proofs.lemmas.List.{take_more}
 use Rattle.scheme.specs.Task.{idle}
 use Rattle.scheme_file.specs.declared.rows.WorkRow.{WorkRow}
 use Rattle.scheme_file.proofs.Vets.{name_size, works_at, works_push}
@@ -32,10 +32,3 @@ loop-row-preserved c =
       ap₂ ◌+◌ c.loop-row.invariant.1 n ∙ more.1,
       omega (arith, c.loop-row.invariant.2, one.name.short, n, name_size c.args.text.now row.name one.lies),
     )
-
-pub returns : goal.returns
-returns c =
-    let i = c.loop-row.row-index in
-    let w = take_all i c.args.works.now (omega arith) in
-    let r = take_all i c.args.rows.now (omega arith) in
-    (rw (w, r) at c.loop-row.invariant.0, rw (w, r) at c.loop-row.invariant.1, omega (arith, c.loop-row.invariant.2, c.requires))

@@ -1,10 +1,10 @@
 use Rattle.std.proofs.Common.{◌≡◌, ℕ, ◌<◌, List, map, length, get_or, sym, ap, ◌∙◌, arith}
 use lib.ListN.{length-map}
-use Rattle.std.proofs.lemmas.List.{get_or-map, take_all}
+use Rattle.std.proofs.lemmas.List.{get_or-map}
 use Rattle.scheme_file.specs.declared.rows.ItemRow.{ItemRow}
 use Rattle.scheme_file.specs.Contents.{item_in}
-use Rattle.scheme_file.specs.Format.{Record, bytes_of, encode, item_record}
-use Rattle.scheme_file.proofs.Puts.{put_as, put_none, record_room, record_step}
+use Rattle.scheme_file.specs.Format.{Record, encode, item_record}
+use Rattle.scheme_file.proofs.Puts.{put_as, record_room, record_step}
 use Rattle.scheme_file.proofs.Vets.{items_at, name_size}
 use Rattle.scheme_file.proofs.putting.Output.items.Goals as goal
 
@@ -28,9 +28,6 @@ at_row items text i lt =
           ∙ ap item_record (get_or-map (item_in text) items i none (item_in text none) lt)),
     )
 
-pub loop-row-init : goal.loop-row-init
-loop-row-init c = put_none c.args.self.now (omega (arith, c.requires.1))
-
 pub item-requires : goal.item-requires
 item-requires c =
     let items = c.args.items.now in
@@ -51,10 +48,3 @@ loop-row-preserved c =
     let r = at_row items text i c.loop-row-test.true in
     let same = ap (λ t. encode (item_record (item_in t (get_or items i none)))) c.loop-row.invariant.text ∙ ap encode r.1 in
     record_step (all items text) i (item_record (item_in text none)) r.0 c.loop-row.invariant (put_as same c.item.ensures)
-
-pub returns : goal.returns
-returns c =
-    let items = c.args.items.now in
-    let text = c.args.self.now.text.now in
-    let l = length-map items (item_in text) in
-    put_as (ap bytes_of (take_all c.loop-row.row-index (all items text) (omega (arith, l, length-map (map (item_in text) items) item_record)))) c.loop-row.invariant
