@@ -1,15 +1,15 @@
 //! The filling pass: the records of bytes that passed the check are filled in.
 ghost use Rattle.std.specs.Prelude.{◌≡◌, ℕ, ◌+◌, ◌≤◌, [], length, take, drop, slice_index};
 ghost use Rattle.sets.specs.Member.{none};
-ghost use Rattle.scheme.specs.Edits.{with_standing, with_wanted, with_works};
+ghost use Rattle.scheme.specs.Edits.{with_works};
 ghost use Rattle.scheme.specs.Task.{task_of};
 ghost use Rattle.scheme_file.specs.Contents.{Reads};
-ghost use Rattle.scheme_file.specs.Passes.{Entering, Itemed, RowAt, WorkAt};
+ghost use Rattle.scheme_file.specs.Passes.{Adds, Entering, Itemed, Part, RowAt, WorkAt};
 ghost use Rattle.scheme_file.specs.Rules.{size};
 
 use crate::numbers::number_at;
 use crate::rows::{ItemRow, Name, WorkRow};
-use scheme::{Scheme, Work};
+use scheme::{Refusal, Scheme, Work};
 use sets::Set;
 
 /// The row of the item at an offset.
@@ -84,25 +84,17 @@ fn fill_works(bytes: &[u8], from: usize, scheme: &mut Scheme, rows: &mut [WorkRo
     at
 }
 
-/// Makes the items of a set stand in a scheme in which none does.
-fn stand_all(scheme: &mut Scheme, items: Set)
-    requires { (task_of scheme.old).standing ≡ none }
-    ensures { task_of scheme.new ≡ with_standing (task_of scheme.old) items }
+/// Adds the items of a set, one after another, to a part of a scheme that has none.
+fn add_all<F: Fn(&mut Scheme, u8) -> Result<bool, Refusal>>(scheme: &mut Scheme, items: Set, add: F)
+    ghost part: { Part }
+    requires calls { F.IsAlwaysCallable add }
+    requires adds { Adds part (F.post add) }
+    requires empty { part.get (task_of scheme.old) ≡ none }
+    ensures { task_of scheme.new ≡ part.put (task_of scheme.old) items }
 {
     for item in items.iter() {
         // A member is below 64, so it is not refused.
-        let _ = scheme.stand(item as u8);
-    }
-}
-
-/// Makes the items of a set wanted in a scheme in which none is.
-fn want_all(scheme: &mut Scheme, items: Set)
-    requires { (task_of scheme.old).wanted ≡ none }
-    ensures { task_of scheme.new ≡ with_wanted (task_of scheme.old) items }
-{
-    for item in items.iter() {
-        // A member is below 64, so it is not refused.
-        let _ = scheme.want(item as u8);
+        let _ = add(scheme, item as u8);
     }
 }
 
@@ -114,6 +106,8 @@ pub fn fill(bytes: &[u8], scheme: &mut Scheme, works: &mut [WorkRow], items: &mu
     scheme.open();
     let at = fill_items(bytes, items);
     let at = fill_works(bytes, at, scheme, works);
-    stand_all(scheme, Set::from_bits(number_at(bytes, at + 4)));
-    want_all(scheme, Set::from_bits(number_at(bytes, at + 16)));
+    let standing = Set::from_bits(number_at(bytes, at + 4));
+    let wanted = Set::from_bits(number_at(bytes, at + 16));
+    add_all(scheme, standing, Scheme::stand);
+    add_all(scheme, wanted, Scheme::want);
 }

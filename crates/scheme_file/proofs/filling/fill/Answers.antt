@@ -17,11 +17,11 @@ returns c =
     let works = c.fill_works-at.ensures.filled in
     let t = works_end rows _ _ (length c.args.works.now) (omega arith) works in
     let listed = c.fill_items-at.ensures _ c.requires in
-    let s = c.from_bits.result in
-    let w = c.from_bits-2.result in
-    let k = c.want_all.ensures ∙ ap (λ (x : Task). with_wanted x w) c.stand_all.ensures in
+    let s = c.from_bits-standing.result in
+    let w = c.from_bits-wanted.result in
+    let k = c.add_all-2.ensures ∙ ap (λ (x : Task). with_wanted x w) c.add_all.ensures in
     subst (λ (x : Task). Reads c.args.bytes.now x rows c.fill_items-at.new.rows) (sym k)
     (whole_read listed.4 works.4 t s w
-    (ap (le 8) c.from_bits.ensures ∙ c.number_at.ensures.bytes ∙ t.first)
-    (ap (le 8) c.from_bits-2.ensures ∙ c.number_at-2.ensures.bytes ∙ t.second)
-    (omega (arith, c.from_bits.ensures)) (omega (arith, c.from_bits-2.ensures)))
+    (ap (le 8) c.from_bits-standing.ensures ∙ c.number_at.ensures.bytes ∙ t.first)
+    (ap (le 8) c.from_bits-wanted.ensures ∙ c.number_at-2.ensures.bytes ∙ t.second)
+    (omega (arith, c.from_bits-standing.ensures)) (omega (arith, c.from_bits-wanted.ensures)))
