@@ -16,7 +16,3 @@ le_value (suc n) (x ∷ xs) room fits =
 pub value_le : (n x : ℕ) → x < 256 ^ n → value (le n x) ≡ x
 value_le zero x h = omega arith
 value_le (suc n) x h = ap (λ v. x % 256 + 256 * v) (value_le n (x / 256) (omega (arith, pow-suc 256 n))) ∙ omega arith
-
-pub length_le : (n x : ℕ) → length (le n x) ≡ n
-length_le zero x = refl
-length_le (suc n) x = ap suc (length_le n (x / 256))

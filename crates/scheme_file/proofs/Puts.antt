@@ -64,9 +64,6 @@ put_more p q = record { wrote = wrote_more p.wrote q.wrote; lent = q.lent ∙ p.
 pub put_as : {was out : Output} {xs ys : List ℕ} → xs ≡ ys → Put was xs out → Put was ys out
 put_as {was} {out} e p = subst (λ (l : List ℕ). Put was l out) e p
 
-pub put_none : (out : Output) → Room out 0 → Put out [] out
-put_none out room = record { wrote = wrote_none out.bytes.now out.at (omega arith); lent = refl; text = refl }
-
 -- ---- records one after another
 
 -- a record's frame, and then its body
@@ -108,6 +105,3 @@ wrote_all {was} {xs} {out} {n} w =
     let rest : 0 + length xs ≡ n = omega (arith, w.end) in
     let cut : out ≡ xs ++ drop n was = w.same ∙ ap (λ k. xs ++ drop k was) rest in
     (ap (take n) cut ∙ take_at xs (drop n was) n (sym long), ap (drop n) cut ∙ drop_at xs (drop n was) n (sym long), long, omega (arith, w.room, wrote_length w))
-
-pub take_length : (n : ℕ) (out xs : List ℕ) → take n out ≡ xs → n ≤ length out → n ≡ length xs
-take_length n out xs e h = sym (length-take-le n out h) ∙ ap length e

@@ -57,7 +57,7 @@ impl From<kinds::UnknownKind> for Cause {
     ghost from_gives = { λ _ cause. cause ≡ UnknownKind };
 
     fn from(_: kinds::UnknownKind) -> Cause {
-        Cause::UnknownKind
+        Self::UnknownKind
     }
 }
 
