@@ -1,8 +1,9 @@
 -- Tests on sets that the checker runs, and what each tells.
-use Rattle.std.proofs.Common.{◌≡◌, ℕ, zero, suc, ◌/◌, ◌%◌, ◌^◌, ◌<◌, Bool, true, false, not, eqb, ◌⊎◌, Some, None, Decides, Option, sym, refl, ap, subst, inl, inr, ⊎_elim, arith}
+use Rattle.std.proofs.Common.{◌≡◌, ℕ, zero, suc, ◌/◌, ◌%◌, ◌^◌, ◌<◌, Bool, true, false, not, ◌||◌, eqb, List, [], ◌∷◌, ◌⊎◌, Some, None, Decides, Option, sym, refl, ap, subst, inl, inr, ⊎_elim, arith}
 use lib.Bits.{bit_and, bit_or}
-use Rattle.std.proofs.lemmas.Bool.Decides.{Decides-eqb, Decides-not, Decides-like, not_from_Decides}
+use Rattle.std.proofs.lemmas.Bool.Decides.{Decides-eqb, Decides-not, Decides-or, Decides-like, not_from_Decides}
 use Rattle.sets.specs.declared.Set.{Set}
+use Rattle.sets.specs.Listed.{In}
 use Rattle.sets.specs.Member.{Has, Members, Sub, Meet, none}
 use Rattle.sets.proofs.Laws.{none_has, none_or_some, same_set, union_members, intersection_members, only_members, filled_with, filled_over}
 
@@ -100,3 +101,19 @@ passing_members P test tells (suc n) =
     when_tells (λ x. Members x (λ k. (k < suc n) × P k)) _ _ (tells n)
     (λ here. filled_with P n (suc n) s (omega arith) below (with s n) here (with_members s n))
     (filled_over P n (suc n) s (omega arith) below)
+
+-- ---- a set made of a list of numbers
+
+abbrev pub in? : List ℕ → ℕ → Bool
+in? [] k = false
+in? (x ∷ xs) k = eqb k x || in? xs k
+
+in_tells : (xs : List ℕ) (k : ℕ) → Decides (in? xs k) (In k xs)
+in_tells [] k = (λ e. cc, λ h. absurd h)
+in_tells (x ∷ xs) k = Decides-or _ _ (Decides-eqb k x) (in_tells xs k)
+
+pub listed_set : (xs : List ℕ) {s : Set} → Members s (λ k. In k xs × (k < 64)) → s ≡ passing (in? xs) 64
+listed_set xs {s} of =
+    let run = passing_members (λ k. In k xs) (in? xs) (in_tells xs) 64 in
+    same_set s (passing (in? xs) 64) (λ k h. let p = (of k).0 h in (run k).1 (p.1, p.0))
+    (λ k h. let p = (run k).0 h in (of k).1 (p.1, p.0))
