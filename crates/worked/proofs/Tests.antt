@@ -1,5 +1,6 @@
 -- Tests on sets that the checker runs, and what each tells.
-use Rattle.std.proofs.Common.{◌≡◌, ℕ, zero, suc, ◌/◌, ◌%◌, ◌^◌, ◌<◌, Bool, true, false, not, ◌||◌, eqb, List, [], ◌∷◌, ◌⊎◌, Some, None, Decides, Option, sym, refl, ap, subst, inl, inr, ⊎_elim, arith}
+use Rattle.std.proofs.Common.{◌≡◌, ℕ, zero, suc, ◌/◌, ◌%◌, ◌^◌, ◌<◌, Bool, true, false, not, ◌||◌, eqb, List, [], ◌∷◌, ◌⊎◌, Some, None, Decides, Option, sym, refl, ap, subst, inl, inr, ⊎_elim, below_more, arith}
+use Rattle.std.specs.Option.{IfSome, option_and_then}
 use lib.Bits.{bit_and, bit_or}
 use Rattle.std.proofs.lemmas.Bool.Decides.{Decides-eqb, Decides-not, Decides-or, Decides-like, not_from_Decides}
 use Rattle.sets.specs.declared.Set.{Set}
@@ -26,11 +27,36 @@ pub when_tells :
 when_tells Q {b} x y tells so not =
     when_by Q b x y (λ e. so (tells.0 e)) (λ e. not (not_from_Decides b tells e))
 
--- ---- a relation that holds of what was run, where it came to something
+-- what holds of each f x holds of what is made by f of a value, if there is one
+pub and_then_holds :
+    {A B : Type 0} {P : A → Type 0} (Q : B → Type 0) (f : A → Option B) →
+    ((a : A) → P a → IfSome (f a) Q) →
+    (o : Option A) →
+    IfSome o P →
+    IfSome (option_and_then f o) Q
+and_then_holds Q f each None h = tt
+and_then_holds Q f each (Some a) h = each a h
 
-abbrev pub Holds : {A B : Type 0} → (A → B → Type 0) → Option (A × B) → Type 0
-Holds R None = Unit {0}
-Holds R (Some (a, b)) = R a b
+-- ---- the lowest number below n that passes a test
+
+-- f of that number, or none where there is none
+abbrev pub at_lowest : {B : Type 0} → (ℕ → Bool) → (ℕ → B) → ℕ → (Unit {0} → B) → B
+at_lowest test f zero none = none tt
+at_lowest test f (suc n) none = at_lowest test f n (λ _. when (test n) (λ _. f n) none)
+
+pub at_lowest_tells :
+    {B : Type 0} (Q : B → Type 0) (P : ℕ → Type 0) (test : ℕ → Bool) →
+    ((k : ℕ) → Decides (test k) (P k)) →
+    (f : ℕ → B) (n : ℕ) (none : Unit {0} → B) →
+    ((k : ℕ) → k < n → P k → ((j : ℕ) → j < k → P j → ⊥) → Q (f k)) →
+    (((k : ℕ) → k < n → P k → ⊥) → Q (none tt)) →
+    Q (at_lowest test f n none)
+at_lowest_tells Q P test tells f zero none at otherwise = otherwise (λ k lt p. omega arith)
+at_lowest_tells Q P test tells f (suc n) none at otherwise =
+    at_lowest_tells Q P test tells f n (λ _. when (test n) (λ _. f n) none) (λ k lt. at k (omega arith))
+    (λ nothing.
+    when_tells Q _ _ (tells n) (λ here. at n (omega arith) here nothing)
+    (λ not. otherwise (λ k lt. below_more (λ j. P j → ⊥) n nothing not k (omega arith))))
 
 -- ---- members
 
