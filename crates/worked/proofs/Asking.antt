@@ -96,7 +96,7 @@ module _ {V : Type 0} (t : Scale V) (c : Comparing t) (capacity : ℕ) (k : Task
       ((s : Set) → Least t prices bars kept s → (Sufficient k (Has s) → ⊥) → Runs kept (rest s)) →
       Runs kept (round rest kept)
   round_holds fair kept rest each =
-      and_then_holds (λ (e : End). Run t capacity k prices bars kept e.0 e.1 e.2) _
+      and_then_holds _ _
       (λ s least. when_tells (Runs kept) _ _ (sufficient_tells k s) (last least) (each s least))
       (draw kept) (draw_holds fair kept)
 
@@ -106,7 +106,7 @@ module _ {V : Type 0} (t : Scale V) (c : Comparing t) (capacity : ℕ) (k : Task
       round_holds fair kept _
       (λ s least short.
       let to = kept ++ (landmark k s ∷ []) in
-      and_then_holds (λ (e : End). Run t capacity k prices bars kept e.0 e.1 e.2) (with_rounds 1)
+      and_then_holds _ (with_rounds 1)
       (λ r h. rw (one-add r.2) (more least short (omega arith) (landmark_drawn k s) h))
       (run places to) (run_holds fair places to (simp length-append (omega arith))))
 
@@ -131,7 +131,7 @@ module _ {V : Type 0} (t : Scale V) (c : Comparing t) (capacity : ℕ) (k : Task
   settle_from_holds fair kept (reached s, to, n) r = at_once r
   settle_from_holds fair [] (exhausted, to, n) r = from_none refl r
   settle_from_holds fair (l ∷ kept) (exhausted, mid, m) r =
-      and_then_holds (λ (e : End). Settled t capacity k prices bars (l ∷ kept) e.0 e.1 e.2) (with_rounds m) (λ e h. anew (λ e. cc) r h)
+      and_then_holds _ (with_rounds m) (λ e h. anew (λ e. cc) r h)
       (run capacity []) (run_holds fair capacity [] (omega arith))
 
   -- ---- a question
@@ -161,8 +161,8 @@ module _ {V : Type 0} (t : Scale V) (c : Comparing t) (capacity : ℕ) (k : Task
   question_holds fair kept fits =
       when_tells (Answers kept) _ _ (unbarred_tells k bars)
       (λ enough.
-      and_then_holds (λ (a : Outcome t.Amount × List Set). Asked t capacity k prices bars kept a.0 a.1) finish (finish_holds enough kept)
+      and_then_holds _ finish (finish_holds enough kept)
       (settle kept)
-      (and_then_holds (λ (e : End). Settled t capacity k prices bars kept e.0 e.1 e.2) (settle_from kept) (settle_from_holds fair kept)
+      (and_then_holds _ (settle_from kept) (settle_from_holds fair kept)
       (run (capacity - length kept) kept) (run_holds fair (capacity - length kept) kept (omega arith))))
       beyond

@@ -78,7 +78,7 @@ module _ {V : Type 0} (t : Scale V) (c : Comparing t) where
         (λ e.
         let p = and_parts (valid? k prices bars places) (leb (length kept) capacity) e in
         let ok = valid k prices bars places p.0 in
-        and_then_holds (λ (s : Task × List Set). Effect t capacity k kept (ask prices bars places) s.0 s.1) _ (λ a. asked ok)
+        and_then_holds _ _ (λ a. asked ok)
         (question t c capacity k prices bars kept)
         (question_holds t c capacity k prices bars ok.0 kept (leb-true _ _ p.1)))
         (λ _. tt)
@@ -99,7 +99,7 @@ module _ {V : Type 0} (t : Scale V) (c : Comparing t) where
         IfSome (after later s) (λ e. Since t capacity (calls ++ later) e.0 e.1)
     after_holds [] calls s h = rw (append-nil calls) h
     after_holds (call ∷ later) calls s h =
-        and_then_holds (λ (e : Task × List Set). Since t capacity (calls ++ (call ∷ later)) e.0 e.1) (after later)
+        and_then_holds _ (after later)
         (λ x e. rw append_assoc at (after_holds later (calls ++ (call ∷ [])) x (then h e)))
         (does s.0 s.1 call) (does_holds s.0 s.1 call)
 

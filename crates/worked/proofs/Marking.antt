@@ -136,7 +136,7 @@ module _ {V : Type 0} (t : Scale V) (c : Comparing t) (capacity : ℕ) (k : Task
       Marks paper kept (judge paper kept r)
   judge_holds fair paper kept fits (Some f) h = flawed h
   judge_holds fair paper kept fits None h =
-      and_then_holds (λ (m : Marking t.Amount × List Set). Marked t capacity k prices bars paper kept m.0 m.1) (weigh paper)
+      and_then_holds _ (weigh paper)
       (weigh_holds paper kept (record { unbarred = h.unbarred; last = h.end; carried = h.carried; reached = h.reached }))
       (question t c capacity k prices bars kept) (question_holds t c capacity k prices bars fair kept fits)
 
