@@ -88,12 +88,11 @@ module _ {V : Type 0} (t : Scale V) (c : Comparing t) (prices : List V) where
         let further : (o : Set) → Led m o → Led (suc m) o = λ o h. (h.0, omega (arith, h.1), h.2, h.3) in
         when_tells (First (Led (suc m))) _ _ (tells m)
         (λ here.
-        first_like (λ o. P m o ⊎ Led m o) (Led (suc m)) (λ o. ⊎_elim (λ p. (m, omega arith, here, p)) (further o))
-        (λ o h. ⊎_elim (λ p. inl p.1) inr (last_or_below m o h)) (better (rest m) others)
-        (better_first (P m) (Led m) (rest m) others (each m here) (best_first m)))
+        first_like (λ o. P m o ⊎ Led m o) _ (λ o. ⊎_elim (λ p. (m, omega arith, here, p)) (further o))
+        (λ o h. ⊎_elim (λ p. inl p.1) inr (last_or_below m o h)) _
+        (better_first _ _ (rest m) others (each m here) (best_first m)))
         (λ not.
-        first_like (Led m) (Led (suc m)) further (λ o h. ⊎_elim (λ p. absurd (not p.0)) (λ q. q) (last_or_below m o h)) others
-        (best_first m))
+        first_like _ _ further (λ o h. ⊎_elim (λ p. absurd (not p.0)) (λ q. q) (last_or_below m o h)) _ (best_first m))
 
   -- ---- the search
 
@@ -117,10 +116,10 @@ module _ {V : Type 0} (t : Scale V) (c : Comparing t) (prices : List V) where
         let shared = intersection_members l free in
         when_tells (First (Within s (l ∷ kept))) _ _ (meet_tells l s)
         (λ m.
-        first_like (Within s kept) (Within s (l ∷ kept)) (λ o h. (h.0, h.1, ((m.0, h.0 m.0 m.2, m.1), h.2)))
-        (λ o h. (h.0, h.1, h.2.1)) (search kept s) (search_first low kept s sub))
+        first_like (Within s kept) _ (λ o h. (h.0, h.1, ((m.0, h.0 m.0 m.2, m.1), h.2)))
+        (λ o h. (h.0, h.1, h.2.1)) _ (search_first low kept s sub))
         (λ not.
-        first_like (λ o. (w : ℕ) × (w < n) × Has (both l free) w × Within (with s w) kept o) (Within s (l ∷ kept))
+        first_like (λ o. (w : ℕ) × (w < n) × Has (both l free) w × Within (with s w) kept o) _
         (λ o h.
         let adds = with_members s h.0 in
         let in-o = h.3.0 h.0 ((adds h.0).1 (inr refl)) in
@@ -129,9 +128,8 @@ module _ {V : Type 0} (t : Scale V) (c : Comparing t) (prices : List V) where
         let (w, in-o, in-l) = h.2.0 in
         let grown : Sub (with s w) o = λ k y. ⊎_elim (h.0 k) (λ e. subst (Has o) (sym e) in-o) ((with_members s w k).0 y) in
         (w, low w (h.1 w in-o), (shared w).1 (in-l, h.1 w in-o), (grown, h.1, h.2.1)))
-        (best (has? (both l free)) (λ w. search kept (with s w)) n)
-        (best_first (Has (both l free)) (has? (both l free)) (has_tells (both l free)) (λ w. search kept (with s w))
-        (λ w. Within (with s w) kept)
+        _
+        (best_first _ _ (has_tells (both l free)) _ _
         (λ w y. search_first low kept (with s w)
         (λ k z. ⊎_elim (sub k) (λ e. subst (Has free) (sym e) ((shared w).0 y).1) ((with_members s w k).0 z)))
         n))
