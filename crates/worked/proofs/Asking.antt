@@ -98,7 +98,7 @@ module _ {V : Type 0} (t : Scale V) (c : Comparing t) (capacity : ℕ) (k : Task
   round_holds fair kept rest each =
       and_then_holds _ _
       (λ s least. when_tells (Runs kept) _ _ (sufficient_tells k s) (last least) (each s least))
-      (draw kept) (draw_holds fair kept)
+      _ (draw_holds fair kept)
 
   run_holds : Fair t k prices → (places : ℕ) (kept : List Set) → length kept + places ≡ capacity → Runs kept (run places kept)
   run_holds fair zero kept e = round_holds fair kept _ (λ s least short. full least short (omega arith))
@@ -106,9 +106,11 @@ module _ {V : Type 0} (t : Scale V) (c : Comparing t) (capacity : ℕ) (k : Task
       round_holds fair kept _
       (λ s least short.
       let to = kept ++ (landmark k s ∷ []) in
-      and_then_holds _ (with_rounds 1)
-      (λ r h. rw (one-add r.2) (more least short (omega arith) (landmark_drawn k s) h))
-      (run places to) (run_holds fair places to (simp length-append (omega arith))))
+      and_then_holds _ _
+      (λ (r : End) (h : Run t capacity k prices bars to r.0 r.1 r.2).
+      rw (one-add r.2) (more least short (omega arith) (landmark_drawn k s) h))
+      _
+      (run_holds fair places to (simp length-append (omega arith))))
 
   -- ---- one run, or two
 
@@ -131,8 +133,7 @@ module _ {V : Type 0} (t : Scale V) (c : Comparing t) (capacity : ℕ) (k : Task
   settle_from_holds fair kept (reached s, to, n) r = at_once r
   settle_from_holds fair [] (exhausted, to, n) r = from_none refl r
   settle_from_holds fair (l ∷ kept) (exhausted, mid, m) r =
-      and_then_holds _ (with_rounds m) (λ e h. anew (λ e. cc) r h)
-      (run capacity []) (run_holds fair capacity [] (omega arith))
+      and_then_holds _ _ (λ e. anew (λ e. cc) r) _ (run_holds fair capacity [] (omega arith))
 
   -- ---- a question
 
@@ -161,8 +162,6 @@ module _ {V : Type 0} (t : Scale V) (c : Comparing t) (capacity : ℕ) (k : Task
   question_holds fair kept fits =
       when_tells (Answers kept) _ _ (unbarred_tells k bars)
       (λ enough.
-      and_then_holds _ finish (finish_holds enough kept)
-      (settle kept)
-      (and_then_holds _ (settle_from kept) (settle_from_holds fair kept)
-      (run (capacity - length kept) kept) (run_holds fair (capacity - length kept) kept (omega arith))))
+      and_then_holds _ _ (finish_holds enough kept) _
+      (and_then_holds _ _ (settle_from_holds fair kept) _ (run_holds fair (capacity - length kept) kept (omega arith))))
       beyond

@@ -34,8 +34,7 @@ unless_lacking_holds :
     (Sub a b → Q (rest tt)) →
     Q (unless_lacking a b found rest)
 unless_lacking_holds Q a b found rest at otherwise =
-    at_lowest_tells Q (λ i. Has a i × (Has b i → ⊥)) _ (λ i. Decides-and _ _ (has_tells a i) (Decides-not _ (has_tells b i)))
-    found a.bits rest
+    at_lowest_tells Q _ _ (λ i. Decides-and _ _ (has_tells a i) (Decides-not _ (has_tells b i))) _ _ _
     (λ i lt h first.
     at i (record {
       member = h.0;
@@ -79,13 +78,13 @@ module _ (k : Task) (bars : Set) where
       All (λ w. w < length k.works) order →
       Reads order p s (read order p s)
   read_holds [] p s held =
-      unless_lacking_holds (Reads [] p s) k.wanted s _ _ (λ i low. at_end low)
+      unless_lacking_holds (Reads [] p s) k.wanted _ _ _ (λ i low. at_end low)
       (λ ends. record { unbarred = λ w y. absurd y; end = s; carried = finished; reached = ends })
   read_holds (w ∷ rest) p s held =
       let next = union s (work k.works w).gives in
       when_tells (Reads (w ∷ rest) p s) _ _ (has_tells bars w) (λ y. at_barred y)
       (λ not.
-      unless_lacking_holds (Reads (w ∷ rest) p s) (work k.works w).needs s _ _ (λ i low. at_lacking not low)
+      unless_lacking_holds (Reads (w ∷ rest) p s) (work k.works w).needs _ _ _ (λ i low. at_lacking not low)
       (λ needs. later_reads w rest p s held.0 not needs (read rest (p + 1) next) (read_holds rest (p + 1) next held.1)))
 
 -- ---- the verdict
@@ -138,7 +137,7 @@ module _ {V : Type 0} (t : Scale V) (c : Comparing t) (capacity : ℕ) (k : Task
   judge_holds fair paper kept fits None h =
       and_then_holds _ (weigh paper)
       (weigh_holds paper kept (record { unbarred = h.unbarred; last = h.end; carried = h.carried; reached = h.reached }))
-      (question t c capacity k prices bars kept) (question_holds t c capacity k prices bars fair kept fits)
+      _ (question_holds t c capacity k prices bars fair kept fits)
 
   pub verdict_holds :
       Fair t k prices →

@@ -52,8 +52,7 @@ module _ (works : List Work) where
   pub place_holds : (fuel : ℕ) (left s : Set) → left.bits < fuel → Placed works left s (place fuel left s)
   place_holds zero left s bound = absurd (omega arith)
   place_holds (suc fuel) left s bound =
-      at_lowest_tells (Placed works left s) (λ w. Has left w × Sub (work works w).needs s) (ready? left s)
-      (λ w. Decides-and _ _ (has_tells left w) (sub_tells (work works w).needs s)) _ (length works) _
+      at_lowest_tells (Placed works left s) _ _ (λ w. Decides-and _ _ (has_tells left w) (sub_tells (work works w).needs s)) _ _ _
       (λ w lt h first.
       placing lt h.0 h.1 (λ v below y needs. first v below (y, needs)) (without_members left w h.0)
       (union_members s (work works w).gives)

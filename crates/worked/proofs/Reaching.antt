@@ -12,10 +12,7 @@ use Rattle.scheme.proofs.Reaches.{sufficient_by_reach, reach_of_sufficient}
 use Rattle.worked.proofs.Tests.{at_lowest, at_lowest_tells, has?, has_tells, sub?, sub_tells, union}
 
 module _ (works : List Work) (chosen : Set) where
-  -- a chosen work whose needs are among the items c adds to them
-  abbrev Adds : Set → ℕ → Type 0
-  Adds c w = Has chosen w × (Sub (work works w).needs c × (Sub (work works w).gives c → ⊥))
-
+  -- whether a chosen work whose needs are among the items c adds to them
   abbrev pub adds? : Set → ℕ → Bool
   adds? c w = has? chosen w && (sub? (work works w).needs c && not (sub? (work works w).gives c))
 
@@ -37,11 +34,11 @@ module _ (works : List Work) (chosen : Set) where
   steps_hold standing top from closed zero c bound holds within =
       absurd (omega (arith, sub_le c top (within top from closed)))
   steps_hold standing top from closed (suc fuel) c bound holds within =
-      at_lowest_tells (Reach works (Has chosen) standing) (Adds c) (adds? c)
+      at_lowest_tells (Reach works (Has chosen) standing) _ _
       (λ w.
       Decides-and _ _ (has_tells chosen w)
       (Decides-and _ _ (sub_tells (work works w).needs c) (Decides-not _ (sub_tells (work works w).gives c))))
-      _ (length works) _
+      _ _ _
       (λ w lt h first.
       let gives = (work works w).gives in
       let adds = union_members c gives in

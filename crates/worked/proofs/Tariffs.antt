@@ -48,7 +48,7 @@ alone R unique r h = IfSome_then r h (λ p g. (g, λ x y f. unique x p.0 y p.1 f
 module _ {V : Type 0} {t : Scale V} (c : Comparing t) (capacity : ℕ) where
   pub since_by : (calls : List (Call V)) → IfSome (after t c capacity calls (opened, [])) (λ s. Only (Since t capacity calls) s.0 s.1)
   since_by calls =
-      alone (Since t capacity calls) (λ a x b y h g. since_unique h g) (after t c capacity calls (opened, [])) (since_holds t c capacity calls)
+      alone _ (λ a x b y h g. since_unique h g) _ (since_holds t c capacity calls)
 
   module _ (k : Task) (prices : List V) (ok : fair? t c k prices ≡ true) where
     pub asked_by :
@@ -56,7 +56,7 @@ module _ {V : Type 0} {t : Scale V} (c : Comparing t) (capacity : ℕ) where
         leb (length kept) capacity ≡ true →
         IfSome (question t c capacity k prices bars kept) (λ a. Only (Asked t capacity k prices bars kept) a.0 a.1)
     asked_by bars kept fits =
-        alone (Asked t capacity k prices bars kept) (λ a x b y h g. asked_unique h g) (question t c capacity k prices bars kept)
+        alone _ (λ a x b y h g. asked_unique h g) _
         (question_holds t c capacity k prices bars (fair t c k prices ok) kept (leb-true (length kept) capacity fits))
 
     -- with no bars, from nothing kept
@@ -68,5 +68,5 @@ module _ {V : Type 0} {t : Scale V} (c : Comparing t) (capacity : ℕ) where
         All (λ w. w < length k.works) paper →
         IfSome (verdict t c capacity k prices none paper []) (λ m. Only (Marked t capacity k prices none paper []) m.0 m.1)
     marked_afresh paper held =
-        alone (Marked t capacity k prices none paper []) (λ a x b y h g. marked_unique h g) (verdict t c capacity k prices none paper [])
+        alone _ (λ a x b y h g. marked_unique h g) _
         (verdict_holds t c capacity k prices none (fair t c k prices ok) paper [] held zero-le)
