@@ -5,7 +5,8 @@ use Rattle.sets.specs.Member.{none}
 use Rattle.scheme.specs.Task.{Task}
 use Rattle.tariff.specs.Amounts.{Scale}
 use Rattle.tariff.specs.PoundsScale.{pounds_scale}
-use Rattle.tariff.specs.HoursFirstScale.{hours_first_scale}
+use Rattle.tariff.specs.HoursFirstScale.{Pair, hours_first_scale}
+use Rattle.tariff.specs.declared.hours_first.HoursAndPounds.{HoursAndPounds}
 use Rattle.inspection.specs.Sample.{sample}
 use Rattle.rules.specs.Rules.{Outcome, Asked}
 use Rattle.rules.specs.Rules.Outcome.{answered, out_of_reach, capacity_spent}
@@ -34,6 +35,9 @@ told t a = answered a.order (t.amount a.total) a.rounds
 abbrev pub in_pounds : {N : ℕ} → Answer ℕ N → Outcome ℕ
 in_pounds a = told pounds_scale a
 
+abbrev pub in_hours : {N : ℕ} → Answer HoursAndPounds N → Outcome Pair
+in_hours a = told hours_first_scale a
+
 -- the verdict that the table tells of a paper
 abbrev pub verdict_told : Told → Verdict ℕ
 verdict_told (Dearer total) = dearer total
@@ -44,10 +48,14 @@ verdict_told (Missing item) = flaw (missing item)
 abbrev pub SampleAsked : Set → List Set → Outcome ℕ → List Set → Type 0
 SampleAsked bars kept = Only (Asked pounds_scale 64 sample pounds bars kept)
 
--- a paper on the sample junction in pounds, from nothing kept: the table has this order, its verdict, and the landmarks kept after it
-abbrev pub SampleMarked : {N : ℕ} → List ℕ → Paper N → List Set → Type 0
-SampleMarked order p kept =
-    (p.order ≡ order) × Only (Marked pounds_scale 64 sample pounds none order []) (given (verdict_told p.verdict)) kept
+-- a paper on the sample junction in pounds, from nothing kept: its verdict and the landmarks kept after it
+abbrev pub SampleMarked : List ℕ → Verdict ℕ → List Set → Type 0
+SampleMarked paper v = Only (Marked pounds_scale 64 sample pounds none paper []) (given v)
+
+-- a paper of the table: it has this order, its verdict is of this kind, and that is the verdict on this order
+abbrev pub PaperMarked : {A : Type 0} {N : ℕ} → List ℕ → (A → Verdict ℕ) → Paper N → List Set → Type 0
+PaperMarked {A} order kind p kept =
+    (a : A) × (p.order ≡ order) × (verdict_told p.verdict ≡ kind a) × SampleMarked order (kind a) kept
 
 -- The sample junction: nothing stands, and item 4 is wanted.
 pub record OnTheSample (c : SampleCases) : Type 0 where
@@ -67,13 +75,13 @@ pub record OnTheSample (c : SampleCases) : Type 0 where
   -- with Priority barred nothing gives what is wanted
   pub priorityless : SampleAsked (these (6 ∷ [])) [] out_of_reach []
   -- hours first, from nothing kept: the same landmarks are drawn
-  pub hours : Only (Asked hours_first_scale 64 sample hours_and_pounds none []) (told hours_first_scale c.hours) c.kept
+  pub hours : Only (Asked hours_first_scale 64 sample hours_and_pounds none []) (in_hours c.hours) c.kept
   -- the paper with the works 0, 3, 5, 6 can be carried out, but another order is cheaper
-  pub dear_paper : SampleMarked (0 ∷ 3 ∷ 5 ∷ 6 ∷ []) c.dear_paper c.kept
+  pub dear_paper : PaperMarked (0 ∷ 3 ∷ 5 ∷ 6 ∷ []) dearer c.dear_paper c.kept
   -- the paper with work 3 alone lacks an item at its first place, and draws nothing
-  pub lacking_paper : SampleMarked (3 ∷ []) c.lacking_paper []
+  pub lacking_paper : PaperMarked (3 ∷ []) (λ (p : ℕ × ℕ). flaw (lacking p.0 p.1)) c.lacking_paper []
   -- the paper with the works 1, 2, 3 can be carried out, and an item is missing after it
-  pub missing_paper : SampleMarked (1 ∷ 2 ∷ 3 ∷ []) c.missing_paper []
+  pub missing_paper : PaperMarked (1 ∷ 2 ∷ 3 ∷ []) (λ (i : ℕ). flaw (missing i)) c.missing_paper []
 
 -- a question in pounds with no bars and from nothing kept: the junction, its prices, the outcome and the landmarks kept after it
 abbrev pub AskedAfresh : (capacity : ℕ) → Task → List ℕ → Outcome ℕ → List Set → Type 0

@@ -21,7 +21,7 @@ returns c =
       asked = since_by by_pounds 64 (entries ++ questions);
       priorityless = ask (these (6 ∷ [])) [] refl;
       hours = asked_afresh by_hours 64 sample hours_and_pounds refl;
-      dear_paper = (refl, mark (0 ∷ 3 ∷ 5 ∷ 6 ∷ []) (omega arith));
-      lacking_paper = (refl, mark (3 ∷ []) (omega arith));
-      missing_paper = (refl, mark (1 ∷ 2 ∷ 3 ∷ []) (omega arith));
+      dear_paper = (_, refl, refl, mark (0 ∷ 3 ∷ 5 ∷ 6 ∷ []) (omega arith));
+      lacking_paper = (_, refl, refl, mark (3 ∷ []) (omega arith));
+      missing_paper = (_, refl, refl, mark (1 ∷ 2 ∷ 3 ∷ []) (omega arith));
     })
