@@ -3,6 +3,7 @@ use Rattle.std.proofs.Common.{◌≡◌, ℕ, zero, suc, ◌+◌, ◌-◌, ◌<�
 use Rattle.std.specs.Option.{IfSome, option_and_then}
 use Rattle.std.proofs.lemmas.Bool.Decides.{Decides-like, Decides-not}
 use Rattle.sets.specs.declared.Set.{Set}
+use Rattle.sets.specs.Listed.{has_bit}
 use Rattle.sets.specs.Member.{Has, Members, none}
 use Rattle.sets.proofs.Laws.{none_has}
 use Rattle.scheme.specs.Task.{Task}
@@ -15,7 +16,7 @@ use Rattle.rules.specs.Rules.Ending.{reached, exhausted}
 use Rattle.rules.specs.Rules.Outcome.{answered, out_of_reach, capacity_spent}
 use Rattle.rules.specs.Calls.{Fair}
 use Rattle.rules.proofs.Optimal.{held_allowed}
-use Rattle.worked.proofs.Tests.{when, when_tells, and_then_holds, has?, has_tells, passing, passing_members}
+use Rattle.worked.proofs.Tests.{when, when_tells, and_then_holds, has_tells, passing, passing_members}
 use Rattle.worked.proofs.Reaching.{sufficient?, sufficient_tells}
 use Rattle.worked.proofs.Growing.{landmark, landmark_drawn}
 use Rattle.worked.proofs.Placing.{place, place_holds}
@@ -36,11 +37,11 @@ with_rounds m e = Some (e.0, e.1, m + e.2)
 module _ (k : Task) (bars : Set) where
   -- the held works that are not barred
   abbrev pub unbarred : Set
-  unbarred = passing (λ w. not (has? bars w)) (length k.works)
+  unbarred = passing (λ w. not (has_bit bars w)) (length k.works)
 
   unbarred_members : Members unbarred (λ w. (w < length k.works) × Unbarred bars w)
   unbarred_members =
-      passing_members (Unbarred bars) (λ w. not (has? bars w)) (λ w. Decides-not _ (has_tells bars w)) (length k.works)
+      passing_members (Unbarred bars) (λ w. not (has_bit bars w)) (λ w. Decides-not _ (has_tells bars w)) (length k.works)
 
   unbarred_tells : Decides (sufficient? k unbarred) (Sufficient k (Unbarred bars))
   unbarred_tells =

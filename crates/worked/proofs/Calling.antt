@@ -4,13 +4,14 @@ use Rattle.std.specs.Option.{IfSome, option_and_then}
 use Rattle.std.proofs.lemmas.Bool.{and_parts, eqb-true, leb-true, ltb-true}
 use Rattle.std.proofs.lemmas.Bool.Decides.{Decides-and, Decides-ltb, Decides-not}
 use Rattle.sets.specs.declared.Set.{Set}
+use Rattle.sets.specs.Listed.{has_bit}
 use Rattle.sets.proofs.Laws.{has_below}
 use Rattle.scheme.specs.Task.{Task}
 use Rattle.scheme.specs.Edits.{opened, with_works, with_wanted}
 use Rattle.tariff.specs.Amounts.{Scale, All}
 use Rattle.rules.specs.Calls.{Call, Fair, Valid, of_parts, Effect, entered, added, asked, Since, opening, then}
 use Rattle.rules.specs.Calls.Call.{enter, amend, stand, want, waive, mark, ask}
-use Rattle.worked.proofs.Tests.{when, when_by, when_tells, and_then_holds, has?, has_tells, with, with_members}
+use Rattle.worked.proofs.Tests.{when, when_by, when_tells, and_then_holds, has_tells, with, with_members}
 use Rattle.worked.proofs.Searching.{Comparing}
 use Rattle.worked.proofs.Asking.{question, question_holds}
 
@@ -54,14 +55,11 @@ module _ {V : Type 0} (t : Scale V) (c : Comparing t) where
     does k kept (enter n g) =
         when (ltb 0 g.bits && ltb (length k.works) 64) (λ _. Some (with_works k (k.works ++ (of_parts n g ∷ [])), [])) (λ _. None)
     does k kept (want i) =
-        when (ltb i 64 && not (has? k.wanted i)) (λ _. Some (with_wanted k (with k.wanted i), kept)) (λ _. None)
+        when (ltb i 64 && not (has_bit k.wanted i)) (λ _. Some (with_wanted k (with k.wanted i), kept)) (λ _. None)
     does k kept (ask prices bars places) =
         when (valid? k prices bars places && leb (length kept) capacity)
         (λ _. option_and_then (λ a. Some (k, a.1)) (question t c capacity k prices bars kept)) (λ _. None)
-    does k kept (amend w n g) = None
-    does k kept (stand i) = None
-    does k kept (waive i) = None
-    does k kept (mark prices bars paper) = None
+    does k kept other = None
 
     abbrev Does : Task → List Set → Call V → State → Type 0
     Does k kept call r = IfSome r (λ s. Effect t capacity k kept call s.0 s.1)
@@ -82,10 +80,7 @@ module _ {V : Type 0} (t : Scale V) (c : Comparing t) where
         (question t c capacity k prices bars kept)
         (question_holds t c capacity k prices bars ok.0 kept (leb-true _ _ p.1)))
         (λ _. tt)
-    does_holds k kept (amend w n g) = tt
-    does_holds k kept (stand i) = tt
-    does_holds k kept (waive i) = tt
-    does_holds k kept (mark prices bars paper) = tt
+    does_holds k kept other = tt
 
     -- ---- one call after another
 

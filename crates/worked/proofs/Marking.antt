@@ -3,6 +3,7 @@ use Rattle.std.proofs.Common.{ℕ, ◌+◌, ◌<◌, ◌≤◌, not, ◌&&◌, L
 use Rattle.std.specs.Option.{IfSome, MatchOption, option_and_then}
 use Rattle.std.proofs.lemmas.Bool.Decides.{Decides-and, Decides-not}
 use Rattle.sets.specs.declared.Set.{Set}
+use Rattle.sets.specs.Listed.{has_bit}
 use Rattle.sets.specs.Member.{Has, Sub}
 use Rattle.sets.proofs.Laws.{has_or_not, members_end, union_members}
 use Rattle.scheme.specs.Task.{Task, work}
@@ -19,14 +20,14 @@ use Rattle.rules.specs.Marks.Flaw.{barred, lacking, missing}
 use Rattle.rules.specs.Marks.Verdict.{flaw, dearer, cheapest}
 use Rattle.rules.specs.Marks.Marking.{given, refused}
 use Rattle.rules.proofs.Flaws.{EndsWell}
-use Rattle.worked.proofs.Tests.{when, when_tells, and_then_holds, at_lowest, at_lowest_tells, has?, has_tells, union}
+use Rattle.worked.proofs.Tests.{when, when_tells, and_then_holds, at_lowest, at_lowest_tells, has_tells, union}
 use Rattle.worked.proofs.Searching.{Comparing}
 use Rattle.worked.proofs.Asking.{question, question_holds}
 
 -- ---- the lowest item of a that b lacks
 
 abbrev pub unless_lacking : {B : Type 0} → Set → Set → (ℕ → B) → (Unit {0} → B) → B
-unless_lacking a b found rest = at_lowest (λ i. has? a i && not (has? b i)) found a.bits rest
+unless_lacking a b found rest = at_lowest (λ i. has_bit a i && not (has_bit b i)) found a.bits rest
 
 unless_lacking_holds :
     {B : Type 0} (Q : B → Type 0) (a b : Set) (found : ℕ → B) (rest : Unit {0} → B) →
@@ -50,7 +51,7 @@ module _ (k : Task) (bars : Set) where
   abbrev pub read : List ℕ → ℕ → Set → Option Flaw
   read [] p s = unless_lacking k.wanted s (λ i. Some (missing i)) (λ _. None)
   read (w ∷ rest) p s =
-      when (has? bars w) (λ _. Some (barred p))
+      when (has_bit bars w) (λ _. Some (barred p))
       (λ _. unless_lacking (work k.works w).needs s (λ i. Some (lacking p i))
       (λ _. read rest (p + 1) (union s (work k.works w).gives)))
 

@@ -2,6 +2,7 @@
 use Rattle.std.proofs.Common.{◌≡◌, ℕ, zero, suc, ◌+◌, ◌-◌, ◌^◌, ◌<◌, Bool, ◌&&◌, List, [], ◌∷◌, length, subst, inl, inr, ⊎_elim, arith, pow_pos}
 use Rattle.std.proofs.lemmas.Bool.Decides.{Decides-and}
 use Rattle.sets.specs.declared.Set.{Set}
+use Rattle.sets.specs.Listed.{has_bit}
 use Rattle.sets.specs.Member.{Has, Members, Sub}
 use Rattle.sets.proofs.Laws.{only_members, union_members}
 use Rattle.scheme.specs.declared.Work.{Work}
@@ -9,7 +10,7 @@ use Rattle.scheme.specs.Task.{work}
 use Rattle.scheme.specs.Orders.{Placed, none_left, placing}
 use Rattle.chooser.proofs.Parts.{less_one, put_back}
 use Rattle.chooser.proofs.UnionNumbers.{number_union}
-use Rattle.worked.proofs.Tests.{at_lowest, at_lowest_tells, has?, has_tells, sub?, sub_tells, union}
+use Rattle.worked.proofs.Tests.{at_lowest, at_lowest_tells, has_tells, sub?, sub_tells, union}
 
 -- ---- the set without a member
 
@@ -42,7 +43,7 @@ module _ (s : Set) (k : ℕ) (has : Has s k) where
 
 module _ (works : List Work) where
   abbrev pub ready? : Set → Set → ℕ → Bool
-  ready? left s w = has? left w && sub? (work works w).needs s
+  ready? left s w = has_bit left w && sub? (work works w).needs s
 
   abbrev pub place : ℕ → Set → Set → List ℕ
   place zero left s = []

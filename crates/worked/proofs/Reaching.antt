@@ -2,6 +2,7 @@
 use Rattle.std.proofs.Common.{ℕ, zero, suc, ◌+◌, ◌<◌, Bool, not, ◌&&◌, List, [], ◌∷◌, length, ◌⊎◌, Decides, subst, inl, inr, ⊎_elim, arith}
 use Rattle.std.proofs.lemmas.Bool.Decides.{Decides-and, Decides-not, Decides-like}
 use Rattle.sets.specs.declared.Set.{Set}
+use Rattle.sets.specs.Listed.{has_bit}
 use Rattle.sets.specs.Member.{Has, Sub, none}
 use Rattle.sets.proofs.Laws.{same_members, sub_le, union_members}
 use Rattle.scheme.specs.declared.Work.{Work}
@@ -9,12 +10,12 @@ use Rattle.scheme.specs.Task.{Task, work}
 use Rattle.scheme.specs.Reach.{Closed, Reach, Sufficient}
 use Rattle.scheme.proofs.Decided.{sub_decided, union_of, union_larger}
 use Rattle.scheme.proofs.Reaches.{sufficient_by_reach, reach_of_sufficient}
-use Rattle.worked.proofs.Tests.{at_lowest, at_lowest_tells, has?, has_tells, sub?, sub_tells, union}
+use Rattle.worked.proofs.Tests.{at_lowest, at_lowest_tells, has_tells, sub?, sub_tells, union}
 
 module _ (works : List Work) (chosen : Set) where
   -- whether a chosen work whose needs are among the items c adds to them
   abbrev pub adds? : Set → ℕ → Bool
-  adds? c w = has? chosen w && (sub? (work works w).needs c && not (sub? (work works w).gives c))
+  adds? c w = has_bit chosen w && (sub? (work works w).needs c && not (sub? (work works w).gives c))
 
   -- steps that each add the gives of one work, until none adds
   abbrev pub steps : ℕ → Set → Set

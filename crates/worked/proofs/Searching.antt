@@ -3,13 +3,14 @@ use Rattle.std.proofs.Common.{◌≡◌, ℕ, zero, suc, ◌<◌, Bool, true, no
 use native.Mathlib.Decide.{dec_lt}
 use Rattle.std.proofs.lemmas.Bool.Decides.{Decides-ltb, Decides-and, Decides-or, Decides-not, Decides-like}
 use Rattle.sets.specs.declared.Set.{Set}
+use Rattle.sets.specs.Listed.{has_bit}
 use Rattle.sets.specs.Member.{Has, Sub, Meet}
 use Rattle.sets.proofs.Laws.{intersection_members}
 use Rattle.tariff.specs.Amounts.{Scale, All}
 use Rattle.tariff.proofs.Order.{less_or_equal, at_most_of_equal}
 use Rattle.chooser.specs.Least.{Precedes, set_cost}
 use Rattle.chooser.proofs.Precedence.{precedes_of_not, precedes_sub, precedes_transitive}
-use Rattle.worked.proofs.Tests.{when, when_tells, has?, has_tells, meet?, meet_tells, both, with, with_members}
+use Rattle.worked.proofs.Tests.{when, when_tells, has_tells, meet?, meet_tells, both, with, with_members}
 
 -- tests of which amount is less, and which price within the ceiling
 pub record Comparing {V : Type 0} (t : Scale V) : Type 0 where
@@ -101,7 +102,7 @@ module _ {V : Type 0} (t : Scale V) (c : Comparing t) (prices : List V) where
     abbrev pub search : List Set → Set → Option Set
     search [] s = Some s
     search (l ∷ kept) s =
-        when (meet? l s) (λ _. search kept s) (λ _. best (has? (both l free)) (λ w. search kept (with s w)) n)
+        when (meet? l s) (λ _. search kept s) (λ _. best (has_bit (both l free)) (λ w. search kept (with s w)) n)
 
     abbrev pub Within : Set → List Set → Set → Type 0
     Within s kept o = Sub s o × Sub o free × All (Meet o) kept

@@ -4,7 +4,7 @@ use Rattle.std.specs.Option.{IfSome, option_and_then}
 use lib.Bits.{bit_and, bit_or}
 use Rattle.std.proofs.lemmas.Bool.Decides.{Decides-eqb, Decides-not, Decides-or, Decides-like, not_from_Decides}
 use Rattle.sets.specs.declared.Set.{Set}
-use Rattle.sets.specs.Listed.{In}
+use Rattle.sets.specs.Listed.{In, has_bit}
 use Rattle.sets.specs.Member.{Has, Members, Sub, Meet, none}
 use Rattle.sets.proofs.Laws.{none_has, none_or_some, same_set, union_members, intersection_members, only_members, filled_with, filled_over}
 
@@ -60,10 +60,7 @@ at_lowest_tells Q P test tells f (suc n) none at otherwise =
 
 -- ---- members
 
-abbrev pub has? : Set → ℕ → Bool
-has? s k = eqb (s.bits / 2 ^ k % 2) 1
-
-pub has_tells : (s : Set) (k : ℕ) → Decides (has? s k) (Has s k)
+pub has_tells : (s : Set) (k : ℕ) → Decides (has_bit s k) (Has s k)
 unfolding Has
 has_tells s k = Decides-eqb (s.bits / 2 ^ k % 2) 1
 
