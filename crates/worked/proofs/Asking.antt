@@ -41,13 +41,13 @@ module _ (k : Task) (bars : Set) where
 
   unbarred_members : Members unbarred (λ w. (w < length k.works) × Unbarred bars w)
   unbarred_members =
-      passing_members (Unbarred bars) (λ w. not (has_bit bars w)) (λ w. Decides-not _ (has_tells bars w)) (length k.works)
+      passing_members _ _ (λ w. Decides-not _ (has_tells bars w)) _
 
   unbarred_tells : Decides (sufficient? k unbarred) (Sufficient k (Unbarred bars))
   unbarred_tells =
-      Decides-like (sufficient? k unbarred)
-      (sufficient_grows k (Has unbarred) (Unbarred bars) (λ w held y. ((unbarred_members w).0 y).1))
-      (sufficient_grows k (Unbarred bars) (Has unbarred) (λ w held not. (unbarred_members w).1 (held, not)))
+      Decides-like _
+      (sufficient_grows k _ _ (λ w held y. ((unbarred_members w).0 y).1))
+      (sufficient_grows k _ _ (λ w held not. (unbarred_members w).1 (held, not)))
       (sufficient_tells k unbarred)
 
 module _ {V : Type 0} (t : Scale V) (c : Comparing t) (capacity : ℕ) (k : Task) (prices : List V) (bars : Set) where

@@ -29,14 +29,14 @@ module _ {V : Type 0} (t : Scale V) (c : Comparing t) where
   all_within : (vs : List V) → all_within? vs ≡ true → All t.within vs
   all_within [] e = tt
   all_within (v ∷ vs) e =
-      let p = and_parts (c.within? v) (all_within? vs) e in (c.within v p.0, all_within vs p.1)
+      let p = and_parts _ _ e in (c.within v p.0, all_within vs p.1)
 
   abbrev pub fair? : Task → List V → Bool
   fair? k prices = eqb (length prices) (length k.works) && all_within? prices
 
   pub fair : (k : Task) (prices : List V) → fair? k prices ≡ true → Fair t k prices
   fair k prices e =
-      let p = and_parts (eqb (length prices) (length k.works)) (all_within? prices) e in
+      let p = and_parts _ _ e in
       (eqb-true _ _ p.0, all_within prices p.1)
 
   abbrev pub valid? : Task → List V → Set → ℕ → Bool
@@ -44,8 +44,8 @@ module _ {V : Type 0} (t : Scale V) (c : Comparing t) where
 
   valid : (k : Task) (prices : List V) (bars : Set) (places : ℕ) → valid? k prices bars places ≡ true → Valid t k prices bars places
   valid k prices bars places e =
-      let p = and_parts (fair? k prices) (ltb bars.bits (2 ^ length k.works) && leb (length k.works) places) e in
-      let q = and_parts (ltb bars.bits (2 ^ length k.works)) (leb (length k.works) places) p.1 in
+      let p = and_parts _ _ e in
+      let q = and_parts _ _ p.1 in
       (fair k prices p.0, λ w. has_below (length k.works) bars w (ltb-true _ _ q.0), leb-true _ _ q.1)
 
   -- ---- one call
@@ -74,7 +74,7 @@ module _ {V : Type 0} (t : Scale V) (c : Comparing t) where
     does_holds k kept (ask prices bars places) =
         when_by (Does k kept (ask prices bars places)) _ _ _
         (λ e.
-        let p = and_parts (valid? k prices bars places) (leb (length kept) capacity) e in
+        let p = and_parts _ _ e in
         let ok = valid k prices bars places p.0 in
         and_then_holds _ _ (λ a. asked ok)
         (question t c capacity k prices bars kept)

@@ -41,7 +41,7 @@ module _ (k : Task) (s : Set) where
         is_grown = grown_all k s (grow_holds (length k.works));
         is_reach = reach_holds k g;
         leaving =
-            passing_members (Leaves k.works r) (leaves? r)
+            passing_members _ _
             (λ w. Decides-and _ _ (sub_tells (work k.works w).needs r) (Decides-not _ (sub_tells (work k.works w).gives r)))
-            (length k.works);
+            _;
       }

@@ -43,7 +43,7 @@ module _ (works : List Work) (chosen : Set) where
       (λ w lt h first.
       let gives = (work works w).gives in
       let adds = union_members c gives in
-      let same = same_members (λ i. Has c i ⊎ Has gives i) (union_of c gives).0 (union c gives) (union_of c gives).1 adds in
+      let same = same_members _ _ _ (union_of c gives).1 adds in
       let larger = subst (λ (s : Set). c.bits < s.bits) same (union_larger c gives h.1.1) in
       steps_hold standing top from closed fuel (union c gives) (omega (arith, larger))
       (λ i y. (adds i).1 (inl (holds i y)))
@@ -68,15 +68,18 @@ all_gives_hold (v ∷ works) zero i y = (union_members v.gives (all_gives works)
 all_gives_hold (v ∷ works) (suc w) i y = (union_members v.gives (all_gives works) i).1 (inr (all_gives_hold works w i y))
 
 module _ (k : Task) (chosen : Set) where
+  -- a closed set
+  abbrev top : Set
+  top = union k.standing (all_gives k.works)
+
   abbrev pub reach : Set
-  reach = steps k.works chosen (suc (union k.standing (all_gives k.works)).bits) k.standing
+  reach = steps k.works chosen (suc top.bits) k.standing
 
   pub reach_holds : Reach k.works (Has chosen) k.standing reach
   reach_holds =
-      let top = union_members k.standing (all_gives k.works) in
-      steps_hold k.works chosen k.standing (union k.standing (all_gives k.works)) (λ i y. (top i).1 (inl y))
-      (λ w held y needs i z. (top i).1 (inr (all_gives_hold k.works w i z)))
-      (suc (union k.standing (all_gives k.works)).bits) k.standing (omega arith) (λ i y. y)
+      let members = union_members k.standing (all_gives k.works) in
+      steps_hold k.works chosen k.standing top (λ i y. (members i).1 (inl y))
+      (λ w held y needs i z. (members i).1 (inr (all_gives_hold k.works w i z))) (suc top.bits) k.standing (omega arith) (λ i y. y)
       (λ x from closed. from)
 
   abbrev pub sufficient? : Bool
@@ -84,5 +87,5 @@ module _ (k : Task) (chosen : Set) where
 
   pub sufficient_tells : Decides sufficient? (Sufficient k (Has chosen))
   sufficient_tells =
-      Decides-like sufficient? (sufficient_by_reach k reach_holds) (λ enough. reach_of_sufficient k enough reach_holds)
+      Decides-like _ (sufficient_by_reach k reach_holds) (λ enough. reach_of_sufficient k enough reach_holds)
       (sub_tells k.wanted reach)

@@ -32,7 +32,7 @@ module _ {V : Type 0} (t : Scale V) (c : Comparing t) (prices : List V) where
   ahead_tells a b =
       let x = set_cost t prices a in
       let y = set_cost t prices b in
-      Decides-like (ahead? a b)
+      Decides-like _
       (⊎_elim inl (λ p. ⊎_elim inl (λ e. inr (e, omega (arith, p.1))) (less_or_equal t x y p.0)))
       (⊎_elim inl (λ p. inr (at_most_of_equal t x y p.0, omega (arith, p.1))))
       (Decides-or _ _ (c.tells x y) (Decides-and _ _ (Decides-not _ (c.tells y x)) (Decides-not _ (Decides-ltb b.bits a.bits))))

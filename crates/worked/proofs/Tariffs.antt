@@ -22,7 +22,7 @@ use Rattle.worked.proofs.Marking.{verdict, verdict_holds}
 use Rattle.worked.proofs.Calling.{fair?, fair, after, since_holds}
 
 abbrev pub by_pounds : Comparing pounds_scale
-by_pounds = record { less? = ltb; tells = Decides-ltb; within? = λ v. leb v 65535; within = λ v. leb-true v 65535 }
+by_pounds = record { less? = ltb; tells = Decides-ltb; within? = λ v. leb v 65535; within = λ v. leb-true _ _ }
 
 abbrev pub by_hours : Comparing hours_first_scale
 by_hours = record {
@@ -32,8 +32,8 @@ by_hours = record {
       (Decides-and _ _ (Decides-eqb x.hours y.hours) (Decides-ltb x.pounds y.pounds));
   within? = λ v. leb v.hours 65535 && leb v.pounds 65535;
   within = λ v e.
-      let p = and_parts (leb v.hours 65535) (leb v.pounds 65535) e in
-      (leb-true v.hours 65535 p.0, leb-true v.pounds 65535 p.1);
+      let p = and_parts _ _ e in
+      (leb-true _ _ p.0, leb-true _ _ p.1);
 }
 
 -- what came to something came to that only
@@ -57,7 +57,7 @@ module _ {V : Type 0} {t : Scale V} (c : Comparing t) (capacity : ℕ) where
         IfSome (question t c capacity k prices bars kept) (λ a. Only (Asked t capacity k prices bars kept) a.0 a.1)
     asked_by bars kept fits =
         alone _ (λ a x b y h g. asked_unique h g) _
-        (question_holds t c capacity k prices bars (fair t c k prices ok) kept (leb-true (length kept) capacity fits))
+        (question_holds t c capacity k prices bars (fair t c k prices ok) kept (leb-true _ _ fits))
 
     -- with no bars, from nothing kept
     pub asked_afresh : IfSome (question t c capacity k prices none []) (λ a. Only (Asked t capacity k prices none []) a.0 a.1)

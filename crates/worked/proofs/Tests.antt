@@ -73,7 +73,7 @@ sub? a b = eqb (both a b).bits a.bits
 pub sub_tells : (a b : Set) → Decides (sub? a b) (Sub a b)
 sub_tells a b =
     let members = intersection_members a b in
-    Decides-like (sub? a b)
+    Decides-like _
     (λ e k y. ((members k).0 (subst (λ (n : ℕ). Has (record { bits = n }) k) (sym e) y)).1)
     (λ h. ap (λ s. s.bits) (same_set (both a b) a (λ k y. ((members k).0 y).0) (λ k y. (members k).1 (y, h k y))))
     (Decides-eqb (both a b).bits a.bits)
@@ -85,10 +85,10 @@ pub meet_tells : (a b : Set) → Decides (meet? a b) (Meet a b)
 meet_tells a b =
     let members = intersection_members a b in
     let some = none_or_some (both a b) in
-    Decides-like (meet? a b)
+    Decides-like _
     (λ ne. let f = some.1 ne in let p = (members f.0).0 f.1 in (f.0, p.0, p.1))
     (λ m e. some.0 e m.0 ((members m.0).1 (m.1, m.2)))
-    (Decides-not (eqb (both a b).bits 0) (Decides-eqb (both a b).bits 0))
+    (Decides-not _ (Decides-eqb (both a b).bits 0))
 
 -- ---- sets made of others
 
@@ -137,6 +137,6 @@ in_tells (x ∷ xs) k = Decides-or _ _ (Decides-eqb k x) (in_tells xs k)
 
 pub listed_set : (xs : List ℕ) {s : Set} → Members s (λ k. In k xs × (k < 64)) → s ≡ passing (in? xs) 64
 listed_set xs {s} of =
-    let run = passing_members (λ k. In k xs) (in? xs) (in_tells xs) 64 in
-    same_set s (passing (in? xs) 64) (λ k h. let p = (of k).0 h in (run k).1 (p.1, p.0))
+    let run = passing_members _ _ (in_tells xs) 64 in
+    same_set _ _ (λ k h. let p = (of k).0 h in (run k).1 (p.1, p.0))
     (λ k h. let p = (run k).0 h in (of k).1 (p.1, p.0))
