@@ -10,7 +10,7 @@ use Rattle.scheme.specs.Task.{Task}
 use Rattle.scheme.specs.Edits.{opened, with_works, with_wanted}
 use Rattle.tariff.specs.Amounts.{Scale, All}
 use Rattle.rules.specs.Calls.{Call, Fair, Valid, of_parts, Effect, entered, added, asked, Since, opening, then}
-use Rattle.rules.specs.Calls.Call.{enter, amend, stand, want, waive, mark, ask}
+use Rattle.rules.specs.Calls.Call.{enter, want, ask}
 use Rattle.worked.proofs.Tests.{when, when_by, when_tells, and_then_holds, has_tells, with, with_members}
 use Rattle.worked.proofs.Searching.{Comparing}
 use Rattle.worked.proofs.Asking.{question, question_holds}

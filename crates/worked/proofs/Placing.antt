@@ -3,7 +3,7 @@ use Rattle.std.proofs.Common.{◌≡◌, ℕ, zero, suc, ◌+◌, ◌-◌, ◌^�
 use Rattle.std.proofs.lemmas.Bool.Decides.{Decides-and}
 use Rattle.sets.specs.declared.Set.{Set}
 use Rattle.sets.specs.Listed.{has_bit}
-use Rattle.sets.specs.Member.{Has, Members, Sub}
+use Rattle.sets.specs.Member.{Has, Members}
 use Rattle.sets.proofs.Laws.{only_members, union_members}
 use Rattle.scheme.specs.declared.Work.{Work}
 use Rattle.scheme.specs.Task.{work}
