@@ -1,8 +1,8 @@
 -- The tests of both tariffs, and what questions, papers and calls come to by running them.
-use Rattle.std.proofs.Common.{◌≡◌, ℕ, ◌<◌, true, ◌&&◌, ◌||◌, eqb, ltb, leb, List, [], length, Option, zero-le}
+use Rattle.std.proofs.Common.{◌≡◌, ℕ, ◌<◌, ◌≤◌, true, ◌&&◌, ◌||◌, eqb, ltb, leb, List, [], length, Option, zero-le}
 use Rattle.std.specs.Option.{IfSome}
 use Rattle.std.proofs.lemmas.Option.{IfSome_then}
-use Rattle.std.proofs.lemmas.Bool.{and_parts, leb-true, le-leb}
+use Rattle.std.proofs.lemmas.Bool.{and_parts, leb-true}
 use Rattle.std.proofs.lemmas.Bool.Decides.{Decides-and, Decides-or, Decides-eqb, Decides-ltb}
 use Rattle.sets.specs.declared.Set.{Set}
 use Rattle.sets.specs.Member.{none}
@@ -31,9 +31,7 @@ by_hours = record {
       Decides-or _ _ (Decides-ltb x.hours y.hours)
       (Decides-and _ _ (Decides-eqb x.hours y.hours) (Decides-ltb x.pounds y.pounds));
   within? = λ v. leb v.hours 65535 && leb v.pounds 65535;
-  within = λ v e.
-      let p = and_parts _ _ e in
-      (leb-true _ _ p.0, leb-true _ _ p.1);
+  within = λ v e. let p = and_parts _ _ e in (leb-true _ _ p.0, leb-true _ _ p.1);
 }
 
 -- what came to something came to that only
@@ -47,21 +45,20 @@ alone R unique r h = IfSome_then r h (λ p g. (g, λ x y f. unique x p.0 y p.1 f
 
 module _ {V : Type 0} {t : Scale V} (c : Comparing t) (capacity : ℕ) where
   pub since_by : (calls : List (Call V)) → IfSome (after t c capacity calls (opened, [])) (λ s. Only (Since t capacity calls) s.0 s.1)
-  since_by calls =
-      alone _ (λ a x b y h g. since_unique h g) _ (since_holds t c capacity calls)
+  since_by calls = alone _ (λ a x b y h g. since_unique h g) _ (since_holds t c capacity calls)
 
   module _ (k : Task) (prices : List V) (ok : fair? t c k prices ≡ true) where
     pub asked_by :
         (bars : Set) (kept : List Set) →
-        leb (length kept) capacity ≡ true →
+        length kept ≤ capacity →
         IfSome (question t c capacity k prices bars kept) (λ a. Only (Asked t capacity k prices bars kept) a.0 a.1)
     asked_by bars kept fits =
         alone _ (λ a x b y h g. asked_unique h g) _
-        (question_holds t c capacity k prices bars (fair t c k prices ok) kept (leb-true _ _ fits))
+        (question_holds t c capacity k prices bars (fair t c k prices ok) kept fits)
 
     -- with no bars, from nothing kept
     pub asked_afresh : IfSome (question t c capacity k prices none []) (λ a. Only (Asked t capacity k prices none []) a.0 a.1)
-    asked_afresh = asked_by none [] (le-leb 0 capacity zero-le)
+    asked_afresh = asked_by none [] zero-le
 
     pub marked_afresh :
         (paper : List ℕ) →
