@@ -11,7 +11,7 @@ use Rattle.scheme.specs.Edits.{opened, with_works, with_wanted}
 use Rattle.tariff.specs.Amounts.{Scale, All}
 use Rattle.rules.specs.Calls.{Call, Fair, Valid, of_parts, Effect, entered, added, asked, Since, opening, then}
 use Rattle.rules.specs.Calls.Call.{enter, want, ask}
-use Rattle.worked.proofs.Tests.{when, when_by, when_tells, and_then_holds, has_tells, with, with_members}
+use Rattle.worked.proofs.Tests.{when, when_tells, and_then_holds, has_tells, with, with_members}
 use Rattle.worked.proofs.Searching.{Comparing}
 use Rattle.worked.proofs.Asking.{question, question_holds}
 
@@ -72,7 +72,7 @@ module _ {V : Type 0} (t : Scale V) (c : Comparing t) where
         when_tells (Does k kept (want i)) _ _ (Decides-and _ _ (Decides-ltb i 64) (Decides-not _ (has_tells k.wanted i)))
         (λ p. added p.0 p.1 (with_members k.wanted i)) (λ _. tt)
     does_holds k kept (ask prices bars places) =
-        when_by (Does k kept (ask prices bars places)) _ _ _
+        when_tells (Does k kept (ask prices bars places)) _ _ (λ e. e, λ e. e)
         (λ e.
         let p = and_parts _ _ e in
         let ok = valid k prices bars places p.0 in

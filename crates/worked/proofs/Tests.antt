@@ -2,7 +2,7 @@
 use Rattle.std.proofs.Common.{◌≡◌, ℕ, zero, suc, ◌/◌, ◌%◌, ◌^◌, ◌<◌, Bool, true, false, not, ◌||◌, eqb, List, [], ◌∷◌, ◌⊎◌, Some, None, Decides, Option, sym, refl, ap, subst, inl, inr, ⊎_elim, below_more, arith}
 use Rattle.std.specs.Option.{IfSome, option_and_then}
 use lib.Bits.{bit_and, bit_or}
-use Rattle.std.proofs.lemmas.Bool.Decides.{Decides-eqb, Decides-not, Decides-or, Decides-like, not_from_Decides}
+use Rattle.std.proofs.lemmas.Bool.Decides.{Decides-eqb, Decides-not, Decides-or, Decides-like}
 use Rattle.sets.specs.declared.Set.{Set}
 use Rattle.sets.specs.Listed.{In, has_bit}
 use Rattle.sets.specs.Member.{Has, Members, Sub, Meet, none}
@@ -14,18 +14,14 @@ abbrev pub when : {A : Type 0} → Bool → (Unit {0} → A) → (Unit {0} → A
 when true x y = x tt
 when false x y = y tt
 
-pub when_by : {A : Type 0} (Q : A → Type 0) (b : Bool) (x y : Unit {0} → A) → (b ≡ true → Q (x tt)) → (b ≡ false → Q (y tt)) → Q (when b x y)
-when_by Q true x y so not = so refl
-when_by Q false x y so not = not refl
-
 pub when_tells :
     {A P : Type 0} (Q : A → Type 0) {b : Bool} (x y : Unit {0} → A) →
     Decides b P →
     (P → Q (x tt)) →
     ((P → ⊥) → Q (y tt)) →
     Q (when b x y)
-when_tells Q {b} x y tells so not =
-    when_by Q b x y (λ e. so (tells.0 e)) (λ e. not (not_from_Decides b tells e))
+when_tells Q {b = true} x y tells so not = so (tells.0 refl)
+when_tells Q {b = false} x y tells so not = not (λ p. cc (tells.1 p))
 
 -- what holds of each f x holds of what is made by f of a value, if there is one
 pub and_then_holds :
