@@ -1,5 +1,11 @@
 -- The prices of works.
-use Rattle.std.proofs.Common.{◌≡◌, ℕ, ◌<◌, Bool, false, ◌⊎◌, List, sym, refl, subst, inl, inr, ⊎_elim, arith}
+use Rattle.std.proofs.Common.{◌≡◌, ℕ, ◌<◌, Bool, false, ◌⊎◌, List, [], ◌∷◌, Some, None, Option, MatchOption, sym, refl, ap, subst, inl, inr, ⊎_elim, arith}
+use Rattle.std.specs.Fn.{Called}
+use Rattle.std.specs.Iterator.{Yields, ReducesItems, FoldTurn}
+use Rattle.std.specs.List.{FoldsTo}
+use denote.Param.Members.{Mut}
+use Rattle.sets.specs.declared.iter.SetIter.{SetIter}
+use Rattle.sets.specs.Steps.{Next}
 use Rattle.sets.specs.declared.Set.{Set}
 use Rattle.sets.specs.Member.{Has, Members, Sub}
 use Rattle.tariff.specs.Amounts.{Scale, AtMost, Decides}
@@ -14,6 +20,10 @@ decided_not P b d e p =
     let so = d.1 p in
     let clash : ◌≡◌ {A = ℕ} 0 1 = cc in
     omega arith
+
+-- the steps of a run over the members of a set
+abbrev pub nexts : SetIter → Option ℕ → SetIter → Type 0
+nexts s r u = Next s.rest r u.rest
 
 module _ {V : Type 0} (t : Scale V) (prices : List V) where
   module _ (one : Set) (w : ℕ) (m : Members one (λ k. (k ≡ w) × (w < 64))) where
@@ -52,8 +62,15 @@ module _ {V : Type 0} (t : Scale V) (prices : List V) where
     pub low : w < 64
     pub least : SetCapped t prices s → (k : ℕ) → Has s k → Has rest k ⊎ AtMost t (work_cost t prices w) (work_cost t prices k)
 
-  pub tried_none : (s : Set) (w : ℕ) → Has s w → w < 64 → Tried s s w
-  tried_none s w h lt = record { inside = λ k y. y; member = h; low = lt; least = λ capped k y. inl y }
+  pub tried_first : (s left : Set) (w : ℕ) → Has s w → w < 64 → Members left (λ k. Has s k × (k ≡ w → ⊥)) → Tried s left w
+  tried_first s left w h lt m = record {
+    inside = λ k y. ((m k).0 y).0;
+    member = h;
+    low = lt;
+    least = λ capped k y.
+        ⊎_elim (λ e. inr (subst (λ (j : ℕ). AtMost t (work_cost t prices w) (work_cost t prices j)) (sym e) (at_most_reflexive t (work_cost t prices w))))
+        (λ ne. inl ((m k).1 (y, ne))) (same_or_not k w);
+  }
 
   pub tried_more :
       (s rest left : Set) (v w r : ℕ) → Tried s rest v → Has rest w → w < 64 → Members left (λ k. Has rest k × (k ≡ w → ⊥)) →
@@ -77,3 +94,30 @@ module _ {V : Type 0} (t : Scale V) (prices : List V) where
     low = so_far.low;
     least = λ capped k y. ⊎_elim (λ z. absurd (empty k z)) (λ le. le) (so_far.least capped k y);
   }
+
+  -- ---- the cheapest of all that come
+
+  module _ {F : Type 0} (g : Mut F (ℕ × (ℕ × Unit {0})) ℕ) (f : F)
+      (turn : (v w r : ℕ) (h : F) → Called g f (v, (w, tt)) r h → Cheaper t prices v w r × (h ≡ f)) (s : Set) where
+    reduced_more :
+        (xs : List ℕ) (it u end : SetIter) (v y : ℕ) (h : F) → Tried s it.rest v → Yields nexts it xs u → Next u.rest None end.rest →
+        FoldsTo {P = F × ℕ} (FoldTurn g) (f, v) xs (h, y) → Cheapest t prices s y
+    reduced_more [] it u end v y h so_far same last folds =
+        let none : (k : ℕ) → Has it.rest k → ⊥ = λ k z. last.0 k (subst (λ (i : SetIter). Has i.rest k) same z) in
+        subst (Cheapest t prices s) (ap (λ (p : F × ℕ). p.1) folds) (tried_all s it.rest v so_far none)
+    reduced_more (x ∷ xs) it u end v y h so_far (j, step, yields) last (p, called, folds) =
+        let cheaper = turn v x p.1 p.0 called in
+        reduced_more xs j u end p.1 y h
+        (tried_more s it.rest j.rest v x p.1 so_far step.0.member step.1 step.2 cheaper.0) yields last
+        (subst (λ (q : F). FoldsTo {P = F × ℕ} (FoldTurn g) (q, p.1) xs (h, y)) cheaper.1 folds)
+
+    pub reduced :
+        (it : SetIter) (r : Option ℕ) → it.rest ≡ s → ReducesItems nexts g it f r →
+        MatchOption r ((k : ℕ) → Has s k → ⊥) (Cheapest t prices s)
+    reduced it None same (end, (u, none, last)) = λ k h.
+        last.0 k (subst (λ (i : SetIter). Has i.rest k) none (subst (λ (z : Set). Has z k) (sym same) h))
+    reduced it (Some y) same (x, xs, h, (end, (u, (j, step, yields), last)), folds) =
+        let first : Tried s j.rest x =
+        subst (λ (z : Set). Tried z j.rest x) same (tried_first it.rest j.rest x step.0.member step.1 step.2)
+        in
+        reduced_more xs j u end x y h first yields last folds
