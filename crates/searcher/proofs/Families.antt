@@ -116,11 +116,10 @@ module _ {V : Type 0} (t : Scale V) (prices : List V) where
   module _ (sets : List Set) (n : Node) where
     -- a set that outdoes the bound precedes each hitting set of the node
     pub outdone :
-        (s floor bound o : Set) → Floor sets n floor → Bounds t prices sets n bound → Outdoes t prices s floor bound → Inside n o →
-        All (Meet o) sets → Precedes t prices s o
-    outdone s floor bound o floors bounds (inl less) inside m = inl (less_at_most_chained t _ _ _ less (bounds.below o inside m))
-    outdone s floor bound o floors bounds (inr (le, low)) inside m =
-        precedes_of_cost t prices s o (at_most_chained t _ _ _ le (bounds.below o inside m)) (omega (arith, floors o inside m))
+        (s bound o : Set) → Bounds t prices sets n bound → Outdoes t prices sets n s bound → Inside n o → All (Meet o) sets → Precedes t prices s o
+    outdone s bound o bounds (inl less) inside m = inl (less_at_most_chained t _ _ _ less (bounds.below o inside m))
+    outdone s bound o bounds (inr (le, low)) inside m =
+        precedes_of_cost t prices s o (at_most_chained t _ _ _ le (bounds.below o inside m)) (low o inside m)
 
     -- what the two tests of a node say together
     pub first_test :
@@ -130,10 +129,10 @@ module _ {V : Type 0} (t : Scale V) (prices : List V) where
     first_test s false not = better t prices sets n s not
 
     pub second_test :
-        (s floor bound : Set) (b : Bool) → Floor sets n floor → Bounds t prices sets n bound → (IsTrue b → Outdoes t prices s floor bound) →
+        (s bound : Set) (b : Bool) → Bounds t prices sets n bound → (IsTrue b → Outdoes t prices sets n s bound) →
         (Precedes t prices s n.chosen → ⊥) → MatchBool b (Settled t prices sets (Some s) n) (Better t prices n.chosen (Some s))
-    second_test s floor bound true floors bounds out not = λ o inside m. outdone s floor bound o floors bounds (out refl) inside m
-    second_test s floor bound false floors bounds out not = better t prices sets n s not
+    second_test s bound true bounds out not = λ o inside m. outdone s bound o bounds (out refl) inside m
+    second_test s bound false bounds out not = better t prices sets n s not
 
     -- a set is known to precede another, or not
     precedes_stable : (a b : Set) → ∥ Precedes t prices a b ∥₁ → Precedes t prices a b

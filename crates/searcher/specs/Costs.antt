@@ -53,7 +53,7 @@ module _ {V : Type 0} (t : Scale V) (prices : List V) where
     pub within : (k : ℕ) → Has bound k → Has n.chosen k ⊎ Has n.free k
     pub below : (o : Set) → Inside n o → All (Meet o) sets → AtMost t (set_cost t prices bound) (set_cost t prices o)
 
-  -- a set costs less than the bound, or no more while its number is not above that of another
-  abbrev pub Outdoes : Set → Set → Set → Type 0
-  Outdoes s floor bound =
-      t.less (set_cost t prices s) (set_cost t prices bound) ⊎ (AtMost t (set_cost t prices s) (set_cost t prices bound) × (s.bits ≤ floor.bits))
+  -- a set costs less than the bound, or no more while its number is not above that of any set of a node that meets the kept ones
+  abbrev pub Outdoes : List Set → Node → Set → Set → Type 0
+  Outdoes sets n s bound =
+      t.less (set_cost t prices s) (set_cost t prices bound) ⊎ (AtMost t (set_cost t prices s) (set_cost t prices bound) × Floor sets n s)

@@ -21,15 +21,16 @@ impl<'a, T: Tariff> Draw<'a, T> {
             return false;
         };
         precedes::<T>(self.prices, set, node.chosen)
-            || self.outdoes(set, self.number_bound(node), self.lower_bound(node))
+            || self.outdoes(set, node, self.lower_bound(node))
     }
 
-    /// Whether a set costs less than a bound, or no more while its number is not above a floor.
-    fn outdoes(&self, set: Set, floor: Set, bound: Set) -> bool
-        ensures { SetCapped T.Tariff.scale self.now.prices.now set → SetCapped T.Tariff.scale self.now.prices.now bound → IsTrue result → Outdoes T.Tariff.scale self.now.prices.now set floor bound }
+    /// Whether a set costs less than a bound, or no more while its number is not above that of any set of a node that meets the kept sets.
+    fn outdoes(&self, set: Set, node: Node, bound: Set) -> bool
+        ensures { SetCapped T.Tariff.scale self.now.prices.now set → SetCapped T.Tariff.scale self.now.prices.now bound → IsTrue result → Outdoes T.Tariff.scale self.now.prices.now self.now.sets.now node set bound }
     {
         let own = set_cost::<T>(self.prices, set);
         let least = set_cost::<T>(self.prices, bound);
-        T::is_less(own, least) || !T::is_less(least, own) && set.bits() <= floor.bits()
+        T::is_less(own, least)
+            || !T::is_less(least, own) && set.bits() <= self.number_bound(node).bits()
     }
 }

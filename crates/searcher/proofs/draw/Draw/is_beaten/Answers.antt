@@ -32,7 +32,6 @@ returns-else-precedes g c =
     (tests_stable t draw.prices.now draw.sets.now n set c.outdoes.result
     (∥∥₁_map draw.capped (λ capped.
     let bounds = c.lower_bound.ensures (λ w h. capped w (of.free w h)) in
-    second_test t draw.prices.now draw.sets.now n set c.number_bound.result c.lower_bound.result c.outdoes.result
-    c.number_bound.ensures bounds
+    second_test t draw.prices.now draw.sets.now n set c.lower_bound.result c.outdoes.result bounds
     (c.outdoes.ensures (λ w h. capped w (part.0 w h)) (λ w h. ⊎_elim (λ y. capped w (of.chosen w y)) (λ y. capped w (of.free w y)) (bounds.within w h)))
     (c.if-precedes.ensures (λ w h. capped w (part.0 w h)) (λ w h. capped w (of.chosen w h))))))
