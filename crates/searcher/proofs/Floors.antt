@@ -1,13 +1,16 @@
--- The numbers of sets of which one is tied to the other, work by work.
-use Rattle.std.proofs.Common.{◌≡◌, ℕ, ◌+◌, ◌^◌, ◌<◌, ◌≤◌, ◌⊎◌, inl, inr, ⊎_elim, arith, pow_mono}
+-- The bound on the numbers.
+use Rattle.std.proofs.Common.{◌≡◌, ℕ, ◌+◌, ◌^◌, ◌<◌, ◌≤◌, ◌⊎◌, List, inl, inr, ⊎_elim, arith, pow_mono}
 use native.Mathlib.Decide.{dec_lt}
 use Rattle.sets.specs.declared.Set.{Set}
-use Rattle.sets.specs.Member.{Has, Members, Lowest}
+use Rattle.sets.specs.Member.{Has, Members, Meet, Lowest}
 use lib.Bits.{bit_or}
 use Rattle.sets.proofs.Laws.{only_members, sub_le, union_members}
+use Rattle.tariff.specs.Amounts.{All}
 use Rattle.chooser.proofs.Parts.{put_back}
 use Rattle.chooser.proofs.UnionNumbers.{number_union, number_union_at_most}
-use Rattle.searcher.specs.Costs.{Paired, within, tied}
+use Rattle.searcher.specs.declared.node.Node.{Node}
+use Rattle.searcher.specs.Costs.{Floor, Paired, within, tied, Picked}
+use Rattle.searcher.specs.Nodes.{Inside}
 
 -- a set with a work more has at most its number and the work's weight
 number_with : (s u : Set) (w : ℕ) → Members u (λ k. Has s k ⊎ ((k ≡ w) × (w < 64))) → u.bits ≤ 2 ^ w + s.bits
@@ -32,11 +35,11 @@ number_without s x w h m =
     ))
     (λ k y z. ((m k).0 z).1 ((is-w k).0 y))
 
-pub lowest_le : (s : Set) (w k : ℕ) → Lowest s w → Has s k → w ≤ k
+lowest_le : (s : Set) (w k : ℕ) → Lowest s w → Has s k → w ≤ k
 lowest_le s w k low h = elim (dec_lt k w) [ yes lt ↦ absurd (low.first k lt h) | no ge ↦ omega arith ]
 
 -- where each work is tied to one that is not lower, the number is not higher
-pub paired_number : (P : ℕ → ℕ → Type 0) → ((w k : ℕ) → P w k → w ≤ k) → (a b : Set) → Paired P a b → a.bits ≤ b.bits
+paired_number : (P : ℕ → ℕ → Type 0) → ((w k : ℕ) → P w k → w ≤ k) → (a b : Set) → Paired P a b → a.bits ≤ b.bits
 paired_number P lower a b (within sub) = sub_le a b sub
 paired_number P lower more all (tied a b w k so_far p has adds takes) =
     let weights : 2 ^ w ≤ 2 ^ k = pow_mono (lower w k p) in
@@ -44,3 +47,11 @@ paired_number P lower more all (tied a b w k so_far p has adds takes) =
     let whole = number_without all b k has takes in
     let up = number_with a more w adds in
     omega arith
+
+-- what is picked is the lowest of some free works
+pub floor_picked :
+    (Pick : Set → ℕ → Type 0) (sets : List Set) (n : Node) (bound : Set) →
+    ((o : Set) → Inside n o → All (Meet o) sets → Paired (Picked Pick n) bound o) →
+    ((shared : Set) (w : ℕ) → Pick shared w → Lowest shared w) → Floor sets n bound
+floor_picked Pick sets n bound paired low o inside m =
+    paired_number (Picked Pick n) (λ w k p. lowest_le p.0 w k (low p.0 w p.2) p.3) bound o (paired o inside m)

@@ -1,5 +1,5 @@
 -- The prices of works.
-use Rattle.std.proofs.Common.{◌≡◌, ℕ, ◌<◌, Bool, false, ◌⊎◌, List, [], ◌∷◌, Some, None, Option, MatchOption, sym, refl, ap, subst, inl, inr, ⊎_elim, arith}
+use Rattle.std.proofs.Common.{◌≡◌, ℕ, ◌<◌, ◌⊎◌, List, [], ◌∷◌, Some, None, Option, MatchOption, sym, refl, ap, ◌∙◌, subst, inl, inr, ⊎_elim, arith}
 use Rattle.std.specs.Fn.{Called}
 use Rattle.std.specs.Iterator.{Yields, ReducesItems, FoldTurn}
 use Rattle.std.specs.List.{FoldsTo}
@@ -8,18 +8,12 @@ use Rattle.sets.specs.declared.iter.SetIter.{SetIter}
 use Rattle.sets.specs.Steps.{Next}
 use Rattle.sets.specs.declared.Set.{Set}
 use Rattle.sets.specs.Member.{Has, Members, Sub}
-use Rattle.tariff.specs.Amounts.{Scale, AtMost, Decides}
+use Rattle.tariff.specs.Amounts.{Scale, AtMost}
 use Rattle.tariff.proofs.Order.{at_most_reflexive, at_most_of_less, at_most_chained}
 use Rattle.chooser.specs.Least.{Capped, SetCapped, set_cost}
 use Rattle.chooser.proofs.Parts.{same_or_not}
 use Rattle.chooser.proofs.SetCosts.{cost_only}
 use Rattle.searcher.specs.Costs.{Cheaper, Cheapest, work_cost}
-
-pub decided_not : (P : Type 0) (b : Bool) → Decides P b → b ≡ false → P → ⊥
-decided_not P b d e p =
-    let so = d.1 p in
-    let clash : ◌≡◌ {A = ℕ} 0 1 = cc in
-    omega arith
 
 -- the steps of a run over the members of a set
 abbrev pub nexts : SetIter → Option ℕ → SetIter → Type 0
@@ -27,11 +21,11 @@ nexts s r u = Next s.rest r u.rest
 
 module _ {V : Type 0} (t : Scale V) (prices : List V) where
   module _ (one : Set) (w : ℕ) (m : Members one (λ k. (k ≡ w) × (w < 64))) where
-    pub only_capped : Capped t prices w → SetCapped t prices one
-    only_capped capped k h = subst (Capped t prices) (sym ((m k).0 h).0) capped
-
-    pub only_cost : w < 64 → set_cost t prices one ≡ work_cost t prices w
-    only_cost lt = cost_only t prices one w (λ k. (λ h. ((m k).0 h).0, λ e. (m k).1 (e, lt)))
+    -- a value that is the cost of a set is that of its only work
+    pub only_cost :
+        (x : V) → (SetCapped t prices one → t.amount x ≡ set_cost t prices one) → w < 64 → Capped t prices w → t.amount x ≡ work_cost t prices w
+    only_cost x costs lt capped =
+        costs (λ k h. subst (Capped t prices) (sym ((m k).0 h).0) capped) ∙ cost_only t prices one w (λ k. (λ h. ((m k).0 h).0, λ e. (m k).1 (e, lt)))
 
   module _ (v w : ℕ) (x y : V) (costs-v : v < 64 → Capped t prices v → t.amount x ≡ work_cost t prices v)
       (costs-w : w < 64 → Capped t prices w → t.amount y ≡ work_cost t prices w) where
@@ -43,16 +37,6 @@ module _ {V : Type 0} (t : Scale V) (prices : List V) where
           subst (λ (a : t.Amount). t.less a (work_cost t prices v)) (costs-w lw cw) (subst (t.less (t.amount y)) (costs-v lv cv) less)
           in
           (at_most_of_less t _ _ under, at_most_reflexive t (work_cost t prices w));
-    }
-
-    pub cheaper_old : (t.less (t.amount y) (t.amount x) → ⊥) → Cheaper t prices v w v
-    cheaper_old not = record {
-      either = inl refl;
-      least = λ lv lw cv cw.
-          let over : AtMost t (work_cost t prices v) (work_cost t prices w) =
-          subst (λ (a : t.Amount). AtMost t a (work_cost t prices w)) (costs-v lv cv) (subst (AtMost t (t.amount x)) (costs-w lw cw) not)
-          in
-          (at_most_reflexive t (work_cost t prices v), over);
     }
 
   -- the cheapest of the members that came so far

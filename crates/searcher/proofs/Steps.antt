@@ -1,5 +1,6 @@
 -- What a step at one node leaves.
 use Rattle.std.proofs.Common.{◌≡◌, ℕ, zero, suc, ◌<◌, Bool, true, false, not, filter, MatchBool, ◌⊎◌, List, [], ◌∷◌, length, get_or, Some, None, Option, option_map, IsSomeAnd, MatchOption, Bor, sym, refl, ap, ◌∙◌, subst, inl, inr, ⊎_elim, arith}
+use Rattle.std.proofs.lemmas.List.{nil_from_length}
 use Rattle.std.specs.Iterator.{ActsAsAt}
 use Rattle.std.specs.Iterator.Runs.{Run, WholeRun, SomeRun, EachRunFrom, AnyItem, IsFilterRun}
 use denote.Param.Members.{Mut}
@@ -51,10 +52,6 @@ unmet_none chosen (x ∷ xs) e =
     (λ c. (c.1, unmet_none chosen xs (rw c.0 at e)))
     (apart_cases chosen x)
 
-no_items : (xs : List Set) → length xs ≡ 0 → xs ≡ []
-no_items [] e = refl
-no_items (x ∷ xs) e = absurd (omega arith)
-
 item_read : (o : Option Set) (m y : Set) → IsSomeAnd o (λ x. x ≡ m) → option_map (λ x. x) o ≡ Some y → m ≡ y
 item_read None m y h e = absurd h
 item_read (Some x) m y h e = sym h ∙ (cc)
@@ -87,7 +84,7 @@ narrowest g f chosen sets s it r Rest (p, from, whole, picks) filtered all test 
   where
     go : (r : Option Set) → MatchOption r (p.len ≡ 0) (λ m. AnyItem p (λ x. x ≡ m) × Rest p m) → p.items ≡ filter (apart chosen) sets →
         Unmet sets chosen r
-    go None none same = unmet_none chosen sets (sym same ∙ no_items p.items (sym p.long ∙ none))
+    go None none same = unmet_none chosen sets (sym same ∙ nil_from_length p.items (sym p.long ∙ none))
     go (Some m) ((k, lt, at), rest) same =
         let read : m ≡ get_or p.items k m = item_read (p.at k) m (get_or p.items k m) at (p.reads k m lt) in
         unmet_one chosen sets m

@@ -1,5 +1,5 @@
 -- The prices of works, and lower bounds on the costs and the numbers of the sets of a node.
-use Rattle.std.specs.Prelude.{◌≡◌, ℕ, ◌<◌, ◌≤◌, ◌⊎◌, List, Some, Option}
+use Rattle.std.specs.Prelude.{◌≡◌, ℕ, ◌<◌, ◌≤◌, ◌⊎◌, List}
 use Rattle.sets.specs.declared.Set.{Set}
 use Rattle.sets.specs.Member.{Has, Members, Meet, Sub}
 use Rattle.tariff.specs.Amounts.{Scale, All, AtMost, sum}
@@ -14,12 +14,12 @@ pub record Own (n : Node) (rest one shared : Set) : Type 0 where
   pub fresh : Sub shared rest
 
 -- a work that is picked from some free works of a node, where Pick says what may be picked
-abbrev pub Taken : (Set → Option ℕ → Type 0) → Node → ℕ → Type 0
-Taken Pick n w = (shared : Set) × Sub shared n.free × Pick shared (Some w)
+abbrev pub Taken : (Set → ℕ → Type 0) → Node → ℕ → Type 0
+Taken Pick n w = (shared : Set) × Sub shared n.free × Pick shared w
 
 -- a work that is picked from some free works of a node, and any of these
-abbrev pub Picked : (Set → Option ℕ → Type 0) → Node → ℕ → ℕ → Type 0
-Picked Pick n w k = (shared : Set) × Sub shared n.free × Pick shared (Some w) × Has shared k
+abbrev pub Picked : (Set → ℕ → Type 0) → Node → ℕ → ℕ → Type 0
+Picked Pick n w k = (shared : Set) × Sub shared n.free × Pick shared w × Has shared k
 
 -- the works of a set are in another, or P ties them to works of that set: one work to one
 pub data Paired (P : ℕ → ℕ → Type 0) : Set → Set → Type 0 where

@@ -12,7 +12,7 @@ use crate::node::Node;
 use sets::Set;
 use tariff::Tariff;
 
-impl<'a, T: Tariff> Draw<'a, T> {
+impl<T: Tariff> Draw<'_, T> {
     /// Works whose cost no set of a node that meets the kept sets falls below: the cheapest free work of each set that counts.
     pub(crate) fn lower_bound(&self, node: Node) -> Set
         ensures { SetCapped T.Tariff.scale self.now.prices.now node.free → Bounds T.Tariff.scale self.now.prices.now self.now.sets.now node result }
@@ -30,8 +30,8 @@ impl<'a, T: Tariff> Draw<'a, T> {
     /// The chosen works, and a free work of each of some kept sets that are not met and share no free work.
     fn bound<F: Fn(Set) -> Option<usize>>(&self, node: Node, pick: F) -> Set
         requires { F.IsAlwaysCallable pick }
-        ensures taken { (k : ℕ) → Has result k → Has node.chosen k ⊎ Taken (F.post pick) node k }
-        ensures paired { (o : Works) → Inside node o → All (Meet o) self.now.sets.now → Paired (Picked (F.post pick) node) result o }
+        ensures taken { (k : ℕ) → Has result k → Has node.chosen k ⊎ Taken (λ s w. F.post pick s (Some w)) node k }
+        ensures paired { (o : Works) → Inside node o → All (Meet o) self.now.sets.now → Paired (Picked (λ s w. F.post pick s (Some w)) node) result o }
     {
         let mut bound = node.chosen;
         let mut rest = node.free;

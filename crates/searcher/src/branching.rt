@@ -6,7 +6,7 @@ use crate::node::Node;
 use sets::Set;
 use tariff::Tariff;
 
-impl<'a, T: Tariff> Draw<'a, T> {
+impl<T: Tariff> Draw<'_, T> {
     /// A kept set that the chosen works do not meet, if there is one: the one with the fewest free works, and the first of equals.
     pub(crate) fn branching_set(&self, node: Node) -> Option<Set>
         ensures { Unmet self.now.sets.now node.chosen result }

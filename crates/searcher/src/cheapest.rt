@@ -9,7 +9,7 @@ use chooser::set_cost;
 use sets::Set;
 use tariff::Tariff;
 
-impl<'a, T: Tariff> Draw<'a, T> {
+impl<T: Tariff> Draw<'_, T> {
     /// The cheapest work of a set, if it has one: the lowest of equals.
     pub(crate) fn cheapest(&self, set: Set) -> Option<usize>
         ensures { MatchOption result ((k : ℕ) → Has set k → ⊥) (Cheapest T.Tariff.scale self.now.prices.now set) }

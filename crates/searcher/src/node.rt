@@ -30,8 +30,8 @@ impl Node {
         ensures free { Members result.free (λ k. Has self.free k × (k ≢ w)) }
     {
         Node {
-            chosen: self.chosen,
             free: self.free.without(w),
+            ..self
         }
     }
 
@@ -40,12 +40,7 @@ impl Node {
         ensures { IfSome result (Own self rest one) }
     {
         let shared = one.intersection(self.free);
-        if self.chosen.intersects(one) {
-            return None;
-        }
-        if !shared.is_subset(rest) {
-            return None;
-        }
-        Some(shared)
+        let counts = !self.chosen.intersects(one) && shared.is_subset(rest);
+        counts.then_some(shared)
     }
 }

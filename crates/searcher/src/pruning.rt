@@ -10,7 +10,7 @@ use chooser::{precedes, set_cost};
 use sets::Set;
 use tariff::Tariff;
 
-impl<'a, T: Tariff> Draw<'a, T> {
+impl<T: Tariff> Draw<'_, T> {
     /// Whether the best set so far is known to precede each set of a node that meets the kept sets.
     pub(crate) fn is_beaten(&self, node: Node, best: Option<Set>) -> bool
         requires node { Of self.now.works node }

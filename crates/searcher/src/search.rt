@@ -13,7 +13,7 @@ pub(crate) struct Walked {
     pub(crate) nodes: u64,
 }
 
-impl<'a, T: Tariff> Draw<'a, T> {
+impl<T: Tariff> Draw<'_, T> {
     /// The first of the sets of the works that meet every kept set, if there is one.
     pub(crate) fn least(&self) -> Walked
         ensures { Searched T.Tariff.scale self.now.prices.now self.now.works self.now.sets.now result.best }
@@ -27,7 +27,8 @@ impl<'a, T: Tariff> Draw<'a, T> {
         Walked { best, nodes }
     }
 
-    /// The best set after a node and all its parts, of which each has a free work less. It counts the nodes.
+    /// The best set so far once a node is done, where each node that it goes through is counted. A node that may better the best set is
+    /// split by a free work of a kept set that is not met; its parts have one free work fewer.
     fn walk(&self, node: Node, best: Option<Set>, nodes: &mut u64) -> Option<Set>
         requires node { Of self.now.works node }
         requires best { Best self.now.works self.now.sets.now best }

@@ -1,7 +1,7 @@
 use Rattle.std.proofs.Common.{MatchBool, Option, sym, subst, ⊎_elim}
 use Rattle.std.proofs.Math.Logic.{∥∥₁_map}
 use Rattle.searcher.specs.Nodes.{Best, Better, Settled}
-use Rattle.searcher.proofs.Families.{first_test, second_test, tests_stable}
+use Rattle.searcher.proofs.Bounding.{first_test, second_test, tests_stable}
 use Rattle.searcher.proofs.draw.Draw.is_beaten.Goals as goal
 
 pub returns-then-precedes : goal.returns-then-precedes
