@@ -1,7 +1,7 @@
 //! The nodes that cannot better the best set so far.
 ghost use Rattle.std.specs.Prelude.{IsTrue, MatchBool};
 ghost use Rattle.chooser.specs.Least.{SetCapped};
-ghost use Rattle.searcher.specs.Costs.{Outdoes};
+ghost use Rattle.searcher.specs.Costs.{Floor, Outdoes};
 ghost use Rattle.searcher.specs.Nodes.{Best, Better, Of, Settled};
 
 use crate::draw::Draw;
@@ -30,7 +30,13 @@ impl<T: Tariff> Draw<'_, T> {
     {
         let own = set_cost::<T>(self.prices, set);
         let least = set_cost::<T>(self.prices, bound);
-        T::is_less(own, least)
-            || !T::is_less(least, own) && set.bits() <= self.number_bound(node).bits()
+        T::is_less(own, least) || !T::is_less(least, own) && self.is_floor(node, set)
+    }
+
+    /// Whether the number of a set is known not to be above that of any set of a node that meets the kept sets.
+    fn is_floor(&self, node: Node, set: Set) -> bool
+        ensures { IsTrue result → Floor self.now.sets.now node set }
+    {
+        set.bits() <= self.number_bound(node).bits()
     }
 }
