@@ -2,8 +2,8 @@
 ghost use Rattle.std.proofs.Common.{rules};
 
 use crate::Searcher;
-use crate::search::least;
-use chooser::{Chooser, Full, candidates};
+use crate::draw::Draw;
+use chooser::{Chooser, Full};
 use sets::Set;
 use tariff::Tariff;
 
@@ -39,15 +39,12 @@ impl Chooser for Searcher {
     }
 
     fn read(&self, place: usize) -> Option<Set> {
-        if place < self.sets.len() {
-            Some(self.sets[place])
-        } else {
-            None
-        }
+        self.sets.get(place).copied()
     }
 
     fn draw<T: Tariff>(&self, prices: &[T::Value], bars: Set) -> Option<Set> {
-        let sets = self.sets.as_slice();
-        least::<T>(prices, sets, candidates::<T>(prices, bars, sets)).best
+        Draw::<T>::new(prices, bars, self.sets.as_slice())
+            .least()
+            .best
     }
 }

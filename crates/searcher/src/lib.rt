@@ -4,14 +4,13 @@
 //! - `making`: a searcher with places for 64 sets.
 //! - `measuring`: how much a draw does.
 //! - `choosing`: what it does as a chooser.
+//! - `draw`: what a draw goes by.
 //! - `search`: the walk over the nodes.
-//! - `step`: what is done at one node.
-//! - `branching`: the kept set and the work that a node is split on.
+//! - `branching`: the kept set that a node is split on.
 //! - `pruning`: the nodes that cannot better the best set so far.
 //! - `bound`: lower bounds on the costs and the numbers of the sets of a node.
 //! - `cheapest`: the cheapest work of a set.
 //! - `node`: a part of the sets of works.
-//! - `stack`: the nodes still to do.
 #![tactic(auto)]
 
 ghost use Rattle.std.specs.Prelude.{◌≤◌, vec_len, vec_capacity};
@@ -20,13 +19,12 @@ mod bound;
 mod branching;
 mod cheapest;
 mod choosing;
+mod draw;
 mod making;
 mod measuring;
 mod node;
 mod pruning;
 mod search;
-mod stack;
-mod step;
 
 use sets::Set;
 

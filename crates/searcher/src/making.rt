@@ -2,6 +2,7 @@
 ghost use Rattle.std.specs.Prelude.{◌≡◌, [], IfOk};
 
 use crate::Searcher;
+use chooser::Chooser;
 use std::alloc::{AllocError, Global};
 
 impl Searcher {
@@ -9,7 +10,7 @@ impl Searcher {
     pub fn new(heap: Global) -> Result<Searcher, AllocError>
         ensures { IfOk result (λ s. s.sets.items ≡ []) }
     {
-        let sets = Vec::with_capacity(heap, 64)?;
+        let sets = Vec::with_capacity(heap, Self::LIMIT)?;
         Ok(Searcher { sets })
     }
 }

@@ -1,14 +1,14 @@
 //! How much a draw does.
 use crate::Searcher;
-use crate::search::least;
-use chooser::candidates;
+use crate::draw::Draw;
 use sets::Set;
 use tariff::Tariff;
 
 impl Searcher {
     /// How many nodes a draw goes through. It is told for measuring, and nothing is promised of it.
     pub fn nodes<T: Tariff>(&self, prices: &[T::Value], bars: Set) -> u64 {
-        let sets = self.sets.as_slice();
-        least::<T>(prices, sets, candidates::<T>(prices, bars, sets)).nodes
+        Draw::<T>::new(prices, bars, self.sets.as_slice())
+            .least()
+            .nodes
     }
 }
