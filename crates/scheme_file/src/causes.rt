@@ -6,7 +6,7 @@ ghost use Rattle.scheme_file.specs.Causes.{cause_number};
 use scheme::Refusal;
 
 /// Why a file or a call is refused.
-#[derive(Clone, Copy)]
+#[derive(Clone, Copy, PartialEq, Eq, Debug)]
 pub enum Cause {
     /// What the scheme itself would refuse.
     Refused(Refusal),
@@ -53,7 +53,7 @@ impl From<Refusal> for Cause {
 }
 
 /// Why a file is refused, and where.
-#[derive(Clone, Copy)]
+#[derive(Clone, Copy, PartialEq, Eq, Debug)]
 pub struct Fault {
     /// The record's number, from 0.
     pub index: usize,

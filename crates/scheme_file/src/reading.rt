@@ -10,6 +10,9 @@ use crate::filling::fill;
 use crate::rows::{Counts, ItemRow, WorkRow};
 use scheme::Scheme;
 
+/// How many bytes of an input are read: one more than a file can have, so that one too many is seen.
+pub const INPUT: u64 = 7_009;
+
 /// Reads a file: opens the scheme anew, enters its works, makes its items stand and be wanted, and fills the first rows. A fault leaves
 /// all as it was.
 pub fn read(

@@ -12,7 +12,7 @@ use crate::writing::write;
 use scheme::Scheme;
 
 /// Why a file is not written back.
-#[derive(Clone, Copy)]
+#[derive(Clone, Copy, PartialEq, Eq, Debug)]
 pub enum Failure {
     /// The file is refused.
     Read(Fault),
