@@ -3,6 +3,7 @@ use Rattle.std.specs.Prelude.{◌≡◌, ℕ, List}
 use Rattle.page.specs.declared.pages.Page.{Page}
 use Rattle.page.specs.Puts.{Puts}
 
--- The bytes xs are put into a page at its offset, and the page goes on behind them.
-abbrev pub Adds : Page → List ℕ → Page → Type 0
-Adds p xs q = (q.bytes.ghost_name ≡ p.bytes.ghost_name) × Puts p.bytes.now p.at xs q.bytes.now q.at
+-- The bytes xs are put into a page at its offset, and the offset goes on behind them. The page is over the same lent bytes.
+pub record Adds (p : Page) (xs : List ℕ) (q : Page) : Type 0 where
+  pub puts : Puts p.bytes.now p.at xs q.bytes.now q.at
+  pub same_reference : q.bytes.ghost_name ≡ p.bytes.ghost_name

@@ -1,6 +1,5 @@
 //! A lent page, into which bytes and numbers are put one after another.
-ghost use Rattle.std.specs.Prelude.{decimal};
-ghost use Rattle.page.specs.Adds.{Adds};
+ghost use Rattle.std.specs.Prelude.{◌^◌, ◌<◌, length, decimal};
 
 use itoa::Buffer;
 
@@ -10,9 +9,13 @@ pub struct Page<'a> {
     pub bytes: &'a mut [u8],
     /// The offset, at most the largest number.
     pub at: usize,
+    ghost long: { length bytes.now < 2 ^ 64 },
+    ghost counted: { at < 2 ^ 64 },
 }
 
 impl Page<'_> {
+    ghost use Rattle.page.specs.Adds.{Adds};
+
     /// Puts bytes.
     pub fn put(&mut self, bytes: &[u8])
         ensures { Adds self.old bytes.now self.new }
