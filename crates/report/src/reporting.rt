@@ -1,5 +1,5 @@
 //! From a file's bytes to the bytes printed.
-ghost use Rattle.std.specs.Prelude.{◌≡◌, ◌≤◌, List, map, length, take};
+ghost use Rattle.std.specs.Prelude.{List};
 ghost use Rattle.scheme.specs.Task.{task_of};
 ghost use Rattle.scheme_file.specs.declared.rows.ItemRow.{ItemRow};
 ghost use Rattle.scheme_file.specs.Contents.{Reads};
@@ -7,16 +7,15 @@ ghost use Rattle.tariff.specs.PoundsScale.{pounds_scale};
 ghost use Rattle.planner.specs.Files.{Opens};
 ghost use Rattle.planner.specs.Parts.{chooser_of, scheme_of};
 ghost use Rattle.report.specs.Report.{Reported, Tells};
-ghost use Rattle.report.specs.Rows.{row_pounds};
 
 use crate::answers::Lines;
 use crate::refusals::RefusalLine;
+use arrayvec::ArrayVec;
 use chooser::Chooser;
 use page::publish;
 use planner::Planner;
 use scheme_file::{Cause, ItemRow, WorkRow};
 use sets::Set;
-use std::array;
 use tariff::pounds::Pounds;
 
 /// How many bytes are enough for what is printed of any file.
@@ -50,9 +49,12 @@ fn report_scheme<C: Chooser>(
     requires opens { Opens pounds_scale C.Chooser.room (task_of (scheme_of planner.old)) (C.Chooser.kept (chooser_of planner.old)) }
     ensures { Tells C.Chooser.room bytes.now page.old (task_of (scheme_of planner.new)) (C.Chooser.kept (chooser_of planner.new)) result page.new }
 {
-    let pounds = list_pounds(rows);
+    let mut pounds = ArrayVec::<u64, 64>::new();
+    for row in rows {
+        pounds.push(row.pounds);
+    }
     let mut order = [0u8; 64];
-    match planner.ask(&pounds[0..rows.len()], Set::empty(), &mut order) {
+    match planner.ask(pounds.as_slice(), Set::empty(), &mut order) {
         Ok(answer) => {
             let lines = Lines {
                 bytes,
@@ -64,12 +66,4 @@ fn report_scheme<C: Chooser>(
         }
         Err(refusal) => publish(&RefusalLine::from(refusal), page),
     }
-}
-
-/// The pounds of the first 64 rows, and 0 behind them.
-fn list_pounds(rows: &[WorkRow]) -> [u64; 64]
-    requires { length rows.now ≤ 64 }
-    ensures { take (length rows.now) result ≡ map row_pounds rows.now }
-{
-    array::from_fn(|w| rows.get(w).map_or(0, |row| row.pounds))
 }

@@ -1,4 +1,4 @@
-use Rattle.std.proofs.Common.{◌≡◌, get_or, ap, ◌∙◌}
+use Rattle.std.proofs.Common.{◌≡◌, get_or, ap, ◌∙◌, rules}
 use Rattle.scheme_file.specs.declared.rows.WorkRow.{WorkRow}
 use Rattle.scheme_file.specs.Contents.{bytes_at}
 use Rattle.page.proofs.Laws.{adds_as, adds_more}
@@ -11,7 +11,9 @@ returns c =
     let self = c.args.self.now in
     let w = c.args.w in
     let row = c.unwrap_or_default-row.result in
-    let found : row ≡ get_or self.rows.now w blank_row = let a = c.unwrap_or_default-row.ensures in let b = c.copied.ensures in let d = c.get.ensures.lookup in ? in
+    let found : row ≡ get_or self.rows.now w blank_row =
+    search rules
+    in
     adds_as
     (ap (line w row.pounds) c.in_text.ensures ∙ ap (λ (r : WorkRow). line w r.pounds (bytes_at self.bytes.now r.name)) found)
     (adds_more c.put_number.ensures
