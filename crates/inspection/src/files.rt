@@ -4,7 +4,7 @@ ghost use Rattle.inspection.specs.Files.{work_in, item_in, refusal, Inspected};
 
 use crate::{Names, record};
 use scheme::Scheme;
-use scheme_file::{Counts, Fault, ItemRow, WorkRow, read};
+use scheme_file::{Fault, ItemRow, WorkRow, read};
 use std::alloc::{AllocError, Global};
 
 /// The names of a file that was read, by its rows.
@@ -21,16 +21,18 @@ impl Names for FileNames<'_> {
     ghost items = { λ n i. item_in n.bytes.now n.items.now i };
 
     fn work(&self, number: usize) -> &[u8] {
-        self.works
-            .get(number)
-            .map_or(b"", |row| row.name.in_text(self.bytes))
+        match self.works.get(number) {
+            Some(row) => row.name.in_text(self.bytes),
+            None => b"",
+        }
     }
 
     fn item(&self, number: usize) -> &[u8] {
-        self.items
-            .iter()
-            .find(|row| row.number as usize == number)
-            .map_or(b"", |row| row.name.in_text(self.bytes))
+        let mut rows = self.items.iter();
+        match rows.find(|row| row.number as usize == number) {
+            Some(row) => row.name.in_text(self.bytes),
+            None => b"",
+        }
     }
 }
 
@@ -42,11 +44,11 @@ pub fn inspect_file(heap: Global, bytes: &[u8]) -> Result<Vec<u8>, AllocError>
     let mut works = [WorkRow::default(); 64];
     let mut items = [ItemRow::default(); 64];
     match read(bytes, &mut scheme, &mut works, &mut items) {
-        Ok(Counts { works: w, items: i }) => {
+        Ok(counts) => {
             let names = FileNames {
                 bytes,
-                works: &works[0..w],
-                items: &items[0..i],
+                works: &works[0..counts.works],
+                items: &items[0..counts.items],
             };
             record(heap, &scheme, &names)
         }
