@@ -1,5 +1,5 @@
 -- Lines added to a text one after another.
-use Rattle.std.proofs.Common.{◌≡◌, ℕ, ◌+◌, ◌<◌, List, [], ◌∷◌, ◌++◌, length, get_or, take, IfOk, None, Some, Ok, Err, Result, sym, refl, ap, ◌∙◌, append_assoc, append-nil, arith}
+use Rattle.std.proofs.Common.{◌≡◌, ℕ, ◌+◌, ◌<◌, List, [], ◌∷◌, ◌++◌, length, get_or, take, None, Some, sym, refl, ap, ◌∙◌, append_assoc, append-nil, arith}
 use Rattle.std.proofs.lemmas.List.{take_more}
 use Rattle.sets.specs.declared.Set.{Set}
 use Rattle.sets.specs.declared.iter.SetIter.{SetIter}
@@ -58,8 +58,3 @@ module _ (line : ℕ → List ℕ) where
       ∙ kept
       ∙ ap (λ (i : SetIter). start ++ lines line (members i.rest)) begun
       ∙ ap (λ (s : Set). start ++ lines line (members s)) whole
-
--- what holds of the value that was made
-pub made_to : {X Y : Type 0} (r : Result X Y) (P Q : X → Type 0) → ((x : X) → P x → Q x) → IfOk r P → IfOk r Q
-made_to (Ok x) P Q f h = f x h
-made_to (Err y) P Q f h = tt

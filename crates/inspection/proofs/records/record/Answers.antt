@@ -1,9 +1,9 @@
 use Rattle.std.proofs.Common.{◌≡◌, ℕ, ◌-◌, length, take, vec_items, sym, ap, subst, arith}
 use native.Mathlib.Nat.{sub-zero}
+use Rattle.std.proofs.lemmas.Result.{IfOk-weaker}
 use Rattle.scheme.specs.Orders.{Placed}
 use Rattle.scheme.specs.Task.{task_of}
 use Rattle.inspection.specs.Record.{Printed, Recorded}
-use Rattle.inspection.proofs.Lines.{made_to}
 use Rattle.inspection.proofs.records.record.Goals as goal
 
 pub returns : goal.returns
@@ -17,7 +17,7 @@ returns g c =
     let bound = c.works.ensures.bound in
     let u = c.unwrap-placed.ensures in
     let o = rw u at c.order.ensures in
-    made_to c.print.result (λ v. Printed k works items c.below-all.result order (vec_items v)) (λ v. Recorded k works items (vec_items v))
+    IfOk-weaker c.print.result (λ v. Printed k works items c.below-all.result order (vec_items v)) (λ v. Recorded k works items (vec_items v))
     (λ v printed. record {
       all = c.below-all.result;
       every = λ w. (
