@@ -62,6 +62,7 @@ fn add_entry(text: &mut Vec<u8>, number: usize, name: &[u8]) -> Result<(), Alloc
 }
 
 /// Whether an item lies in the reach, in words.
+#[tactic(auto, unfolding(sets::specs::Member::Has))]
 fn word(reach: Set, item: usize) -> &'static [u8]
     ensures { result.now ≡ reach_text (has_bit reach item) }
 {

@@ -1,4 +1,4 @@
-use Rattle.std.proofs.Common.{ℕ, ◌-◌, ◌∙◌, ap, length, take, vec_items, sym, subst₂, inl}
+use Rattle.std.proofs.Common.{ℕ, ◌-◌, take, vec_items, sym, subst₂, inl}
 use native.Mathlib.Nat.{sub-zero}
 use Rattle.std.proofs.lemmas.Result.{IfOk-weaker}
 use Rattle.scheme.specs.Task.{task_of}

@@ -1,77 +1,50 @@
-use Rattle.std.proofs.Common.{◌≡◌, ℕ, List, [], ◌++◌, codes, get_or, take, sym, ap, ◌∙◌, subst, append_assoc, append-nil}
+use Rattle.std.proofs.Common.{◌≡◌, ℕ, List, ◌++◌, codes, ap, ◌∙◌, append_assoc}
 use Rattle.std.proofs.lemmas.List.{take_all}
-use Rattle.sets.specs.declared.Set.{Set}
-use Rattle.sets.specs.declared.iter.SetIter.{SetIter}
 use Rattle.sets.specs.Listed.{members, has_bit}
-use Rattle.sets.proofs.Listing.{members_none}
 use Rattle.inspection.specs.Record.{entry, marked, lines, reach_text}
-use Rattle.inspection.proofs.Lines.{next_member, next_place, all_members}
+use Rattle.inspection.proofs.Members.{all_yielded}
 use Rattle.inspection.proofs.records.print.Goals as goal
 
-pub loop-number-preserved : goal.loop-number-preserved
-loop-number-preserved g c =
-    let line : ℕ → List ℕ = λ w. entry w (g.N.Names.works c.args.names.now w) in
-    let text = c.loop-number.text.items in
-    let w = get_or c.args.order.now c.loop-number.number-index 0 in
-    next_place line (codes "works in order\n") text c.add_entry.new.text.items c.args.order.now c.loop-number.number-index c.loop-number-test.true c.loop-number.invariant
-    (c.in_ok-add_entry.ensures ∙ ap (λ name. text ++ entry w name) c.work.ensures)
-
-pub loop-i-preserved : goal.loop-i-preserved
-loop-i-preserved g c =
-    let line : ℕ → List ℕ = λ i. entry i (g.N.Names.items c.args.names.now i) in
-    let text = c.loop-i.text.items in
-    let i = c.in-Some.i in
-    next_member line c.loop-i.i-iterator.rest c.next.new.self.rest i text c.add_entry-in-loop-i.new.text.items c.in-Some.ensures.steps
-    (c.in_ok-add_entry-2.ensures ∙ ap (λ name. text ++ entry i name) c.item.ensures)
-    ∙ c.loop-i.invariant
-
-pub loop-i-2-preserved : goal.loop-i-2-preserved
-loop-i-2-preserved g c =
-    let word : ℕ → List ℕ = λ i. reach_text (has_bit c.reach-reach.result i) in
-    let line : ℕ → List ℕ = λ i. marked (word i) i (g.N.Names.items c.args.names.now i) in
-    let text = c.loop-i-2.text.items in
-    let i = c.in-Some-i.i in
-    let added : c.add_entry-in-loop-i-2.new.text.items ≡ ((text ++ word i) ++ codes " ") ++ entry i (g.N.Names.items c.args.names.now i) =
-    c.in_ok-add_entry-3.ensures
-    ∙ ap (λ name. c.extend_from_slice-in-loop-i-2-2.new.self.items ++ entry i name) c.item-in-loop-i-2.ensures
-    ∙ ap (λ t. t ++ entry i (g.N.Names.items c.args.names.now i))
-    (c.in_ok-extend_from_slice-4.ensures.items
-    ∙ ap (λ t. t ++ codes " ") (c.in_ok-extend_from_slice-3.ensures.items ∙ ap (λ t. text ++ t) c.word.ensures))
-    in
-    next_member line c.loop-i-2.i-iterator.rest c.next-in-loop-i-2.new.self.rest i text c.add_entry-in-loop-i-2.new.text.items c.in-Some-i.ensures.steps
-    (added ∙ simp append_assoc)
-    ∙ c.loop-i-2.invariant
+-- six texts behind one another
+six_parts :
+    (a b c d e f t1 t2 t3 t4 t5 : List ℕ) →
+    t1 ≡ a ++ b →
+    t2 ≡ t1 ++ c →
+    t3 ≡ t2 ++ d →
+    t4 ≡ t3 ++ e →
+    t5 ≡ t4 ++ f →
+    t5 ≡ a ++ (b ++ (c ++ (d ++ (e ++ f))))
+six_parts a b c d e f t1 t2 t3 t4 t5 p1 p2 p3 p4 p5 =
+    let whole : t5 ≡ ((((a ++ b) ++ c) ++ d) ++ e) ++ f = cc in whole ∙ simp append_assoc
 
 pub returns : goal.returns
 returns g c =
     let reach = c.reach-reach.result in
+    let wanted = c.args.scheme.now.wanted in
     let items = g.N.Names.items c.args.names.now in
     let work_line : ℕ → List ℕ = λ w. entry w (g.N.Names.works c.args.names.now w) in
     let item_line : ℕ → List ℕ = λ i. entry i (items i) in
     let want_line : ℕ → List ℕ = λ i. marked (reach_text (has_bit reach i)) i (items i) in
-    let first = c.loop-number.text.items in
-    let second = c.loop-i.text.items in
-    let works : first ≡ codes "works in order\n" ++ lines work_line c.args.order.now =
-    c.loop-number.invariant
-    ∙ ap (λ order. codes "works in order\n" ++ lines work_line order) (take_all c.loop-number.number-index c.args.order.now c.loop-number-test.false)
+    let placed = take_all c.loop-number.number-index c.args.order.now c.loop-number-test.false in
+    let standing : c.loop-i.yielded ≡ members reach =
+    all_yielded c.into_iter-i-iterator.result c.iter-i-items.result _ c.next.new.self reach c.loop-i.yielded c.next.result
+    c.into_iter-i-iterator.ensures.into_iter_gives c.iter-i-items.ensures c.loop-i.yielded_by c.in-None.is c.next.ensures.steps
     in
-    let standing : second ≡ (first ++ codes "standing at the end\n") ++ lines item_line (members reach) =
-    all_members item_line reach c.loop-i.i-iterator.rest c.next.new.self.rest c.into_iter-i-iterator.result c.iter-i-items.result _ second
-    c.into_iter-i-iterator.ensures.into_iter_gives c.iter-i-items.ensures c.in-None.ensures.steps c.loop-i.invariant
-    ∙ ap (λ t. t ++ lines item_line (members reach)) c.in_ok-extend_from_slice.ensures.items
-    in
-    let wanted : c.loop-i-2.text.items ≡ (second ++ codes "wanted\n") ++ lines want_line (members c.args.scheme.now.wanted) =
-    all_members want_line c.args.scheme.now.wanted c.loop-i-2.i-iterator.rest c.next-in-loop-i-2.new.self.rest c.into_iter-i-iterator-2.result
-    c.iter-i-items-2.result _ c.loop-i-2.text.items
-    c.into_iter-i-iterator-2.ensures.into_iter_gives (c.iter-i-items-2.ensures ∙ c.wanted.ensures) c.in-None-i.ensures.steps c.loop-i-2.invariant
-    ∙ ap (λ t. t ++ lines want_line (members c.args.scheme.now.wanted)) c.in_ok-extend_from_slice-2.ensures.items
+    let listed : c.loop-i-2.yielded ≡ members wanted =
+    all_yielded c.into_iter-i-iterator-2.result c.iter-i-items-2.result _ c.next-in-loop-i-2.new.self wanted c.loop-i-2.yielded c.next-in-loop-i-2.result
+    c.into_iter-i-iterator-2.ensures.into_iter_gives (c.iter-i-items-2.ensures ∙ c.wanted.ensures) c.loop-i-2.yielded_by c.in-None-i.is
+    c.next-in-loop-i-2.ensures.steps
     in
     record {
       reach = reach;
       reached = c.reach-reach.ensures;
       written =
-          wanted
-          ∙ ap (λ t. (t ++ codes "wanted\n") ++ lines want_line (members c.args.scheme.now.wanted))
-          (standing ∙ ap (λ t. (t ++ codes "standing at the end\n") ++ lines item_line (members reach)) works)
-          ∙ simp append_assoc;
+          six_parts (codes "works in order\n") (lines work_line c.args.order.now) (codes "standing at the end\n") (lines item_line (members reach))
+          (codes "wanted\n") (lines want_line (members wanted)) c.loop-number.text.items c.extend_from_slice.new.self.items c.loop-i.text.items
+          c.extend_from_slice-2.new.self.items c.loop-i-2.text.items
+          (c.loop-number.invariant ∙ ap (λ ns. codes "works in order\n" ++ lines work_line ns) placed)
+          c.in_ok-extend_from_slice.ensures.items
+          (c.loop-i.invariant ∙ ap (λ ns. c.extend_from_slice.new.self.items ++ lines item_line ns) standing)
+          c.in_ok-extend_from_slice-2.ensures.items
+          (c.loop-i-2.invariant ∙ ap (λ ns. c.extend_from_slice-2.new.self.items ++ lines want_line ns) listed);
     }
