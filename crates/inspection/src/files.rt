@@ -41,6 +41,7 @@ pub fn inspect_file(heap: Global, bytes: &[u8]) -> Result<Vec<u8>, AllocError>
     ensures { IfOk result (λ v. Inspected bytes.now 64 64 v.items) }
 {
     let mut scheme = Scheme::new(heap)?;
+    // Lent rows, as many as a file can fill: a reading has no memory of its own.
     let mut works = [WorkRow::default(); 64];
     let mut items = [ItemRow::default(); 64];
     match read(bytes, &mut scheme, &mut works, &mut items) {
@@ -60,8 +61,6 @@ pub fn inspect_file(heap: Global, bytes: &[u8]) -> Result<Vec<u8>, AllocError>
 fn refused(heap: Global, fault: Fault) -> Result<Vec<u8>, AllocError>
     ensures { IfOk result (λ v. v.items ≡ refusal fault) }
 {
-    let number = fault.cause.number();
-    let offset = fault.offset;
-    let line = format!(in heap; "refused {number} at {offset}\n")?;
+    let line = format!(in heap; "refused {} at {}\n", fault.cause.number(), fault.offset)?;
     Ok(line.into_bytes())
 }

@@ -15,6 +15,7 @@ pub fn record<N: Names>(heap: Global, scheme: &Scheme, names: &N) -> Result<Vec<
     ensures { IfOk result (λ v. Recorded (task_of scheme.now) (N.Names.works names.now) (N.Names.items names.now) v.items) }
 {
     let all = Set::below(scheme.works().len());
+    // A lent list of places for 64 works: an order has no memory of its own.
     let mut places = [0u8; 64];
     let placed = scheme.order(all, &mut places).unwrap();
     print(heap, scheme, names, all, &places[0..placed])

@@ -30,6 +30,7 @@ pub fn report_cheapest<C: Chooser>(
 ) -> Result<usize, Cause>
     ensures { Reported C.Chooser.room bytes.now page.old (scheme_of planner.old) (scheme_of planner.new) (C.Chooser.kept (chooser_of planner.old)) (C.Chooser.kept (chooser_of planner.new)) result page.new }
 {
+    // Lent rows, as many as a file can fill: a reading has no memory of its own.
     let mut works = [WorkRow::default(); 64];
     let mut items = [ItemRow::default(); 64];
     match planner.read(bytes, &mut works, &mut items) {
@@ -53,6 +54,7 @@ fn report_scheme<C: Chooser>(
     for row in rows {
         pounds.push(row.pounds);
     }
+    // A lent list of places for 64 works: a question has no memory of its own.
     let mut order = [0u8; 64];
     match planner.ask(pounds.as_slice(), Set::empty(), &mut order) {
         Ok(answer) => {
