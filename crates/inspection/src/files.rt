@@ -1,5 +1,7 @@
 //! The record of a scheme file.
-ghost use Rattle.std.specs.Prelude.{◌≡◌, IfOk};
+ghost use Rattle.std.specs.Prelude.{◌≡◌, ◌==◌, find, IfOk};
+ghost use Rattle.std.specs.Option.{option_copied};
+ghost use Rattle.scheme_file.specs.declared.rows.ItemRow.{ItemRow};
 ghost use Rattle.inspection.specs.Files.{work_in, item_in, refusal, Inspected};
 
 use crate::{Names, record};
@@ -20,6 +22,7 @@ impl Names for FileNames<'_> {
 
     ghost items = { λ n i. item_in n.bytes.now n.items.now i };
 
+    #[tactic(auto, using(crate::proofs::Rows::work_in_at, crate::proofs::Rows::work_in_past))]
     fn work(&self, number: usize) -> &[u8] {
         match self.works.get(number) {
             Some(row) => row.name.in_text(self.bytes),
@@ -28,12 +31,18 @@ impl Names for FileNames<'_> {
     }
 
     fn item(&self, number: usize) -> &[u8] {
-        let mut rows = self.items.iter();
-        match rows.find(|row| row.number as usize == number) {
+        match row_of(self.items, number) {
             Some(row) => row.name.in_text(self.bytes),
             None => b"",
         }
     }
+}
+
+/// The first row of an item, if it has one.
+fn row_of(items: &[ItemRow], number: usize) -> Option<&ItemRow>
+    ensures { option_copied result ≡ find (λ (r : ItemRow). r.number == number) items.now }
+{
+    items.iter().find(|row| row.number as usize == number)
 }
 
 /// What is printed of a file: the record of its scheme, or its fault.

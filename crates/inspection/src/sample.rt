@@ -84,6 +84,7 @@ pub fn junction(heap: Global) -> Result<Scheme, Failure>
 }
 
 /// Enters works, each given by the numbers of its needs and gives.
+#[tactic(auto, using(crate::proofs::Entries::holds_none, crate::proofs::Entries::holds_more))]
 fn enter_all(scheme: &mut Scheme, works: &[(u64, u64)]) -> Result<(), Refusal>
     ensures { OnOk result (Holds (task_of scheme.old) works.now (task_of scheme.new)) }
 {
