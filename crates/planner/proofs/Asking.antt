@@ -1,5 +1,5 @@
 -- What a question promises, from what its steps answer.
-use Rattle.std.proofs.Common.{◌≡◌, ℕ, List, length, take, Ok, Err, Result, sym, refl, subst, inl, inr, arith}
+use Rattle.std.proofs.Common.{◌≡◌, ℕ, List, [], ◌∷◌, ◌++◌, length, take, Ok, Err, Result, sym, refl, subst, inl, inr, arith}
 use Rattle.sets.specs.declared.Set.{Set}
 use Rattle.scheme.specs.Task.{Task}
 use Rattle.scheme.specs.Landmarks.{Landmark}
@@ -10,12 +10,12 @@ use Rattle.tariff.specs.Amounts.{Scale, All}
 use Rattle.chooser.specs.Least.{SetCapped, set_cost}
 use Rattle.rules.specs.Rules.{Outcome, Asked, beyond, found, spent}
 use Rattle.rules.specs.Rules.Outcome.{answered, out_of_reach, capacity_spent}
-use Rattle.rules.specs.Calls.{Valid, asked, not_asked, then}
+use Rattle.rules.specs.Calls.{Since, Valid, asked, not_asked, then}
 use Rattle.rules.specs.Calls.Call.{ask}
 use Rattle.planner.specs.Views.{Says}
 use Rattle.planner.specs.Asks.{Asks, Later, Leads, Numbers, Unmoved, Within}
 use Rattle.rounds.specs.Checks.{Misput}
-use Rattle.rounds.specs.Steps.{Finds}
+use Rattle.rounds.specs.Steps.{Puts}
 use Rattle.planner.specs.declared.types.Answer.{Answer}
 use Rattle.rounds.specs.declared.finding.Found.{Found}
 use Rattle.rules.proofs.Kept.{since_marks}
@@ -69,7 +69,7 @@ module _ {V : Type 0} (t : Scale V) (capacity : ℕ) (k : Task) (prices : List V
     unmoved = unmoved;
   }
 
-  pub asked_misput : (e : Refusal) → Misput t k prices bars (length from) e → Asks t capacity k kept prices bars from (Err e) from k kept
+  asked_misput : (e : Refusal) → Misput t k prices bars (length from) e → Asks t capacity k kept prices bars from (Err e) from k kept
   asked_misput e wrong = record {
     same = refl;
     since = λ calls since. then since (not_asked (misput_not_valid t k prices bars (length from) e wrong));
@@ -81,54 +81,54 @@ module _ {V : Type 0} (t : Scale V) (capacity : ℕ) (k : Task) (prices : List V
     unmoved = inr refl;
   }
 
-  module _ (valid : Valid t k prices bars (length from)) where
-    pub asked_refused :
-        (e : Refusal) (to : List Set) → Finds t capacity k prices bars kept (Err e) to → Asks t capacity k kept prices bars from (Err e) from k to
-    asked_refused e to (inl p) =
-        by_rule (Err e) from to (inr (inl (p.0, valid, p.1))) refl tt (inr p.2) valid
-        (λ marks.
-        let Beyond : List Set → Type 0 = λ x. Asked t capacity k prices bars kept out_of_reach x in
-        (out_of_reach, inl (p.0, refl), subst Beyond (sym p.2) (beyond p.1)))
-    asked_refused e to (inr p) =
-        by_rule (Err e) from to (inr (inr (p.0, valid, p.1))) refl tt (inl p.0) valid
-        (λ marks.
-        let settled = p.2.1 (record { fair = valid.0; enough = p.1; marks = marks }) in
-        (capacity_spent, inr (p.0, refl), spent p.1 settled))
+  -- a question that is put and refused
+  pub asked_refused :
+      (e : Refusal) (to : List Set) → Puts t capacity k prices bars (length from) kept (Err e) to → Asks t capacity k kept prices bars from (Err e) from k to
+  asked_refused e to (inl wrong) = let A : List Set → Type 0 = λ x. Asks t capacity k kept prices bars from (Err e) from k x in subst A (sym wrong.1) (asked_misput e wrong.0)
+  asked_refused e to (inr (valid, inl p)) =
+      by_rule (Err e) from to (inr (inl (p.0, valid, p.1))) refl tt (inr p.2) valid
+      (λ marks.
+      let Beyond : List Set → Type 0 = λ x. Asked t capacity k prices bars kept out_of_reach x in
+      (out_of_reach, inl (p.0, refl), subst Beyond (sym p.2) (beyond p.1)))
+  asked_refused e to (inr (valid, inr p)) =
+      by_rule (Err e) from to (inr (inr (p.0, valid, p.1))) refl tt (inl p.0) valid
+      (λ marks.
+      let settled = p.2.1 (record { fair = valid.0; enough = p.1; marks = marks }) in
+      (capacity_spent, inr (p.0, refl), spent p.1 settled))
 
-    pub asked_answered :
-        (f : Found) (n : ℕ) (total : V) (order : List ℕ) (to : List Set) →
-        Finds t capacity k prices bars kept (Ok f) to →
-        Filled k.works f.set k.standing from n order →
-        (SetCapped t prices f.set → t.amount total ≡ set_cost t prices f.set) →
-        Asks t capacity k kept prices bars from (Ok (record { length = n; total = total; rounds = f.rounds })) order k to
-    asked_answered f n total order to finds filled cost =
-        by_rule (Ok (record { length = n; total = total; rounds = f.rounds })) order to (valid, finds.0) filled.later filled.within tt valid
-        (λ marks.
-        let settled = finds.1 (record { fair = valid.0; enough = finds.0; marks = marks }) in
-        let least = (settled_based t k prices bars settled marks).least in
-        let At : t.Amount → Type 0 = λ x. Asked t capacity k prices bars kept (answered (take n order) x f.rounds) to in (
-          answered (take n order) (t.amount total) f.rounds,
-          refl,
-          subst At (sym (cost (λ w y. (least.hitting.allowed w y).1))) (found finds.0 settled filled.placed),
-        ))
+  -- one that is answered, and its order written
+  pub asked_answered :
+      (f : Found) (n : ℕ) (total : V) (order : List ℕ) (to : List Set) →
+      Puts t capacity k prices bars (length from) kept (Ok f) to →
+      Filled k.works f.set k.standing from n order →
+      (SetCapped t prices f.set → t.amount total ≡ set_cost t prices f.set) →
+      Asks t capacity k kept prices bars from (Ok (record { length = n; total = total; rounds = f.rounds })) order k to
+  asked_answered f n total order to (valid, finds) filled cost =
+      by_rule (Ok (record { length = n; total = total; rounds = f.rounds })) order to (valid, finds.0) filled.later filled.within tt valid
+      (λ marks.
+      let settled = finds.1 (record { fair = valid.0; enough = finds.0; marks = marks }) in
+      let least = (settled_based t k prices bars settled marks).least in
+      let At : t.Amount → Type 0 = λ x. Asked t capacity k prices bars kept (answered (take n order) x f.rounds) to in (
+        answered (take n order) (t.amount total) f.rounds,
+        refl,
+        subst At (sym (cost (λ w y. (least.hitting.allowed w y).1))) (found finds.0 settled filled.placed),
+      ))
 
 -- ---- a question in a list of calls
 
-module _ {V : Type 0} (t : Scale V) (capacity : ℕ) (k : Task) (prices : List V) (bars : Set) (kept : List Set) (places : ℕ) where
-  pub leads_misput : (e : Refusal) → Misput t k prices bars places e → Leads t capacity k kept (ask prices bars places) k kept
-  leads_misput e wrong calls since = then since (not_asked (misput_not_valid t k prices bars places e wrong))
-
-  pub leads_found :
-      Valid t k prices bars places →
-      (r : Result Found Refusal) (to : List Set) →
-      Finds t capacity k prices bars kept r to →
-      Leads t capacity k kept (ask prices bars places) k to
-  leads_found valid (Ok f) to finds calls since =
-      let settled = finds.1 (record { fair = valid.0; enough = finds.0; marks = since_marks since }) in
-      then since (asked valid (found finds.0 settled (placed_exists k.works f.set k.standing).1))
-  leads_found valid (Err e) to (inl p) calls since =
-      let Beyond : List Set → Type 0 = λ x. Asked t capacity k prices bars kept out_of_reach x in
-      then since (asked valid (subst Beyond (sym p.2) (beyond p.1)))
-  leads_found valid (Err e) to (inr p) calls since =
-      let settled = p.2.1 (record { fair = valid.0; enough = p.1; marks = since_marks since }) in
-      then since (asked valid (spent p.1 settled))
+pub leads_put :
+    {V : Type 0} (t : Scale V) (capacity : ℕ) (k : Task) (prices : List V) (bars : Set) (kept : List Set) (places : ℕ) (r : Result Found Refusal) (to : List Set) →
+    Puts t capacity k prices bars places kept r to →
+    Leads t capacity k kept (ask prices bars places) k to
+leads_put t capacity k prices bars kept places (Ok f) to (valid, finds) calls since =
+    let settled = finds.1 (record { fair = valid.0; enough = finds.0; marks = since_marks since }) in
+    then since (asked valid (found finds.0 settled (placed_exists k.works f.set k.standing).1))
+leads_put {V} t capacity k prices bars kept places (Err e) to (inl wrong) calls since =
+    let After : List Set → Type 0 = Since t capacity (calls ++ (ask prices bars places ∷ [])) k in
+    subst After (sym wrong.1) (then since (not_asked (misput_not_valid t k prices bars places e wrong.0)))
+leads_put t capacity k prices bars kept places (Err e) to (inr (valid, inl p)) calls since =
+    let Beyond : List Set → Type 0 = λ x. Asked t capacity k prices bars kept out_of_reach x in
+    then since (asked valid (subst Beyond (sym p.2) (beyond p.1)))
+leads_put t capacity k prices bars kept places (Err e) to (inr (valid, inr p)) calls since =
+    let settled = p.2.1 (record { fair = valid.0; enough = p.1; marks = since_marks since }) in
+    then since (asked valid (spent p.1 settled))

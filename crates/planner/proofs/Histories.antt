@@ -6,14 +6,14 @@ use Rattle.scheme.specs.Task.{Task}
 use Rattle.scheme.specs.Edits.{opened}
 use Rattle.scheme.specs.declared.refusals.Refusal.{Refusal}
 use Rattle.tariff.specs.Amounts.{Scale}
-use Rattle.rules.specs.Calls.{Call, Effect, Since, opening, then}
+use Rattle.rules.specs.Calls.{Effect, Since, opening, then}
 use Rattle.rules.proofs.Unique.{since_unique}
-use Rattle.planner.specs.Asks.{Asks, Leads, Conducted, ConductedAlone}
+use Rattle.planner.specs.Asks.{Asks, Leads, ConductedAlone}
 use Rattle.planner.specs.Views.{call_of, calls_of}
 use Rattle.planner.specs.declared.types.Answer.{Answer}
 use Rattle.planner.specs.declared.types.Request.{Request}
 
-calls_append : {V : Type 0} (xs ys : List (Request V)) → calls_of (xs ++ ys) ≡ calls_of xs ++ calls_of ys
+calls_append : {T V : Type 0} (xs ys : List (Request T V)) → calls_of (xs ++ ys) ≡ calls_of xs ++ calls_of ys
 calls_append [] ys = refl
 calls_append (x ∷ xs) ys = ap (λ rest. call_of x ∷ rest) (calls_append xs ys)
 
@@ -22,17 +22,17 @@ module _ {V : Type 0} (t : Scale V) (capacity : ℕ) where
   since_opened k kept e f = subst₂ (Since t capacity []) (sym e) (sym f) opening
 
   -- what a call does, where a request says the call
-  module _ (k after : Task) (kept to : List Set) where
-    pub obeys : {r r' : Request V} → r ≡ r' → Leads t capacity k kept (call_of r') after to → Leads t capacity k kept (call_of r) after to
-    obeys e leads = let P : Request V → Type 0 = λ x. Leads t capacity k kept (call_of x) after to in subst P (sym e) leads
+  module _ {T : Type 0} (k after : Task) (kept to : List Set) where
+    pub obeys : {r r' : Request T V} → r ≡ r' → Leads t capacity k kept (call_of r') after to → Leads t capacity k kept (call_of r) after to
+    obeys e leads = let P : Request T V → Type 0 = λ x. Leads t capacity k kept (call_of x) after to in subst P (sym e) leads
 
     pub obeys_edit :
-        {r r' : Request V} → r ≡ r' → Effect t capacity k kept (call_of r') after to → Leads t capacity k kept (call_of r) after to
+        {r r' : Request T V} → r ≡ r' → Effect t capacity k kept (call_of r') after to → Leads t capacity k kept (call_of r) after to
     obeys_edit e effect = obeys e (λ calls since. then since effect)
 
-  module _ (requests : List (Request V)) where
+  module _ {T : Type 0} (requests : List (Request T V)) where
     pub since_more :
-        (i : ℕ) (r : Request V) (k after : Task) (kept to : List Set) →
+        (i : ℕ) (r : Request T V) (k after : Task) (kept to : List Set) →
         i < length requests →
         r ≡ get_or requests i r →
         Since t capacity (calls_of (take i requests)) k kept →
@@ -63,17 +63,3 @@ module _ {V : Type 0} (t : Scale V) (capacity : ℕ) where
           comes_to = λ valid. asks.promised (calls_of requests) all valid;
           after_all = asks.since (calls_of requests) all;
         }
-
-  -- ConductedAlone has all that Conducted says
-  pub conducted_all :
-      {calls : List (Call V)} {prices : List V} {bars : Set} {from : List ℕ} {r : Result (Answer V) Refusal} {order : List ℕ} {after : Task} {to : List Set} →
-      ConductedAlone t capacity calls prices bars from r order after to →
-      Conducted t capacity calls prices bars (length from) r order after to
-  conducted_all all = record {
-    k = all.k;
-    kept = all.kept;
-    since = all.since;
-    numbers = all.asks.numbers;
-    promised = all.comes_to;
-    later = all.after_all;
-  }

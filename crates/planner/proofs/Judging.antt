@@ -1,5 +1,5 @@
 -- What a marking promises, from what its steps answer.
-use Rattle.std.proofs.Common.{◌≡◌, ℕ, List, [], ◌∷◌, Ok, Err, Result, sym, refl, ap, subst, inl, inr, ⊎_elim, arith}
+use Rattle.std.proofs.Common.{ℕ, List, [], ◌∷◌, Ok, Err, Result, sym, refl, ap, subst, inl, inr, ⊎_elim, arith}
 use Rattle.sets.specs.declared.Set.{Set}
 use Rattle.scheme.specs.Task.{Task}
 use Rattle.scheme.specs.Orders.{Plan}
@@ -13,11 +13,9 @@ use Rattle.rules.specs.Marks.{Marking, Marked, Flawed, flawed, as_cheap, not_che
 use Rattle.rules.specs.Marks.Marking.{given, refused}
 use Rattle.rules.specs.Marks.Verdict.{flaw, dearer, cheapest}
 use Rattle.rules.specs.Calls.{Fair, Readable, marked, not_marked, then}
-use Rattle.rules.specs.Calls.Call.{mark}
-use Rattle.planner.specs.Asks.{Leads}
 use Rattle.rounds.specs.Steps.{Finds}
 use Rattle.rounds.specs.Checks.{Illegible}
-use Rattle.planner.specs.Papers.{flaw_of, Beside, Compares, Judged, MarkNumbers, MarksPromised, MarksPromisedAlone, SaysMarking, Stated, StatedBy, Unasked}
+use Rattle.planner.specs.Papers.{flaw_of, Beside, Compares, Judged, MarkNumbers, Marks, SaysMarking, Stated, StatedBy, Unasked}
 use Rattle.planner.specs.declared.marking.Flaw.{Flaw}
 use Rattle.planner.specs.declared.marking.Verdict.{Verdict}
 use Rattle.planner.specs.declared.marking.Verdict.TheVariants.{Flawed as Faulty, Dearer, Cheapest}
@@ -28,17 +26,6 @@ use Rattle.rules.proofs.Optimal.{price_capped}
 use Rattle.rules.proofs.Outcomes.{asked_right}
 use Rattle.rules.proofs.Unique.{marked_unique}
 use Rattle.rules.proofs.Plans.{sufficient_of_plan}
-
-module _ {V : Type 0} (t : Scale V) (capacity : ℕ) where
-  -- What a marking promises of its result, and of what is held and kept before and after it.
-  pub record Marks (k : Task) (kept : List Set) (prices : List V) (bars : Set) (paper : List ℕ) (r : Result (Verdict V) Refusal) (after : Task) (to : List Set) : Type 0 where
-    pub same : after ≡ k
-    pub numbers : MarkNumbers t k prices bars paper r
-    pub stated : StatedBy t k prices bars paper r
-    pub unmoved : Unasked r kept to
-    pub since : Leads t capacity k kept (mark prices bars paper) after to
-    pub promised : MarksPromised t capacity k prices bars paper kept r to
-    pub alone : MarksPromisedAlone t capacity k prices bars paper kept r to
 
 module _ {V : Type 0} (t : Scale V) (capacity : ℕ) (k : Task) (prices : List V) (bars : Set) (paper : List ℕ) (kept : List Set) where
   -- a marking is right

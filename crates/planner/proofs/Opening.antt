@@ -19,7 +19,7 @@ module _ (text : List ℕ) where
   entries_many (w ∷ works) [] e = absurd (omega arith)
   entries_many (w ∷ works) (r ∷ rows) e = let tail = entries_many works rows (omega arith) in omega arith
 
-  pub entries_give :
+  entries_give :
       (works : List Work) (rows : List WorkRow) →
       length rows ≡ length works →
       AllByRecursion Giving (entries text works rows) →

@@ -1,7 +1,7 @@
 -- What a marking promises, and what its steps answer.
-use Rattle.std.specs.Prelude.{◌≡◌, ℕ, ◌≤◌, ◌⊎◌, List, length, Some, None, Ok, Err, Option, Result}
+use Rattle.std.specs.Prelude.{◌≡◌, ℕ, ◌<◌, ◌≤◌, ◌⊎◌, List, length, Some, None, Ok, Err, Option, Result, slice_index}
 use Rattle.sets.specs.declared.Set.{Set}
-use Rattle.scheme.specs.declared.Work.{Work}
+use Rattle.sets.specs.Member.{Has}
 use Rattle.scheme.specs.declared.refusals.Refusal.{Refusal}
 use Rattle.scheme.specs.Orders.{Plan}
 use Rattle.scheme.specs.Refusals.{number_of}
@@ -14,20 +14,24 @@ use Rattle.rules.specs.Marks.Marking.{given, refused}
 use Rattle.rules.specs.Marks.Flaw.{barred, lacking, missing}
 use Rattle.rules.specs.Marks.Verdict.{flaw, dearer, cheapest}
 use Rattle.rules.specs.Marks as rules
+use Rattle.rules.specs.Calls.Call.{mark}
 use Rattle.rounds.specs.Checks.{Illegible}
+use Rattle.planner.specs.Asks.{Leads}
 use Rattle.planner.specs.declared.marking.Flaw.{Flaw}
 use Rattle.planner.specs.declared.marking.Flaw.TheVariants.{Barred, Lacking, Missing}
 use Rattle.planner.specs.declared.marking.Verdict.{Verdict}
 use Rattle.planner.specs.declared.marking.Verdict.TheVariants.{Flawed as Faulty, Dearer, Cheapest}
 
--- the task of these works, standing items and wanted items
-abbrev pub task_from : List Work → Set → Set → Task
-task_from works standing wanted = record { works = works; standing = standing; wanted = wanted }
-
 abbrev pub flaw_of : Flaw → rules.Flaw
 flaw_of (Barred place) = barred place
 flaw_of (Lacking place item) = lacking place item
 flaw_of (Missing item) = missing item
+
+-- the first place at which a barred work stands, or that there is none
+abbrev pub FirstBarred : Set → List ℕ → Option ℕ → Type 0
+FirstBarred bars paper (Some p) =
+    (p < length paper) × Has bars (slice_index paper p) × ((j : ℕ) → j < p → Has bars (slice_index paper j) → ⊥)
+FirstBarred bars paper None = (j : ℕ) → j < length paper → Has bars (slice_index paper j) → ⊥
 
 -- the first flaw of a paper, or that it is a plan
 abbrev pub FirstFlaw : Task → Set → List ℕ → Option Flaw → Type 0
@@ -120,3 +124,13 @@ module _ {V : Type 0} (t : Scale V) (capacity : ℕ) where
       (m : Marking t.Amount) (other : List Set) →
       Marked t capacity k prices bars paper kept m other →
       SaysMarking t r m × (other ≡ to)
+
+  -- What a marking promises of its result, and of what is held and kept before and after it.
+  pub record Marks (k : Task) (kept : List Set) (prices : List V) (bars : Set) (paper : List ℕ) (r : Result (Verdict V) Refusal) (after : Task) (to : List Set) : Type 0 where
+    pub same : after ≡ k
+    pub numbers : MarkNumbers t k prices bars paper r
+    pub stated : StatedBy t k prices bars paper r
+    pub unmoved : Unasked r kept to
+    pub since : Leads t capacity k kept (mark prices bars paper) after to
+    pub promised : MarksPromised k prices bars paper kept r to
+    pub alone : MarksPromisedAlone k prices bars paper kept r to

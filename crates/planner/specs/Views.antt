@@ -17,15 +17,15 @@ Says t (Ok a) places o = o ≡ answered (take a.length places) (t.amount a.total
 Says t (Err e) places o = ((number_of e ≡ 9) × (o ≡ out_of_reach)) ⊎ ((number_of e ≡ 10) × (o ≡ capacity_spent))
 
 -- a request says a call
-abbrev pub call_of : {V : Type 0} → Request V → Call V
+abbrev pub call_of : {T V : Type 0} → Request T V → Call V
 call_of (Enter needs gives) = enter needs gives
 call_of (Amend work needs gives) = amend work needs gives
 call_of (Stand item) = stand item
 call_of (Want item) = want item
 call_of (Waive item) = waive item
-call_of (Mark prices bars paper) = mark prices.now bars paper.now
-call_of (Ask prices bars places) = ask prices.now bars places
+call_of (Mark terms paper) = mark terms.prices.now terms.bars paper.now
+call_of (Ask terms places) = ask terms.prices.now terms.bars places
 
-abbrev pub calls_of : {V : Type 0} → List (Request V) → List (Call V)
+abbrev pub calls_of : {T V : Type 0} → List (Request T V) → List (Call V)
 calls_of [] = []
 calls_of (r ∷ rest) = call_of r ∷ calls_of rest

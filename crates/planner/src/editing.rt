@@ -2,8 +2,9 @@
 ghost use Rattle.std.specs.Prelude.{◌≡◌, [], IfOk};
 ghost use Rattle.scheme.specs.Edits.{opened, Entered, Amended, Stood, Wanted, Waived};
 ghost use Rattle.scheme.specs.Task.{task_of};
-ghost use Rattle.rules.specs.Calls.{Effect, of_parts};
+ghost use Rattle.rules.specs.Calls.{of_parts};
 ghost use Rattle.rules.specs.Calls.Call.{enter as to_enter, amend as to_amend, stand as to_stand, want as to_want, waive as to_waive};
+ghost use Rattle.planner.specs.Parts.{Does};
 
 use crate::types::Planner;
 use chooser::Chooser;
@@ -18,15 +19,13 @@ impl<T: Tariff, C: Chooser> Planner<T, C> {
         ensures held { task_of result.scheme ≡ opened }
         ensures kept { C.Chooser.kept result.chooser ≡ [] }
     {
-        let mut scheme = scheme;
-        let mut chooser = chooser;
-        scheme.open();
-        chooser.clear();
-        Planner {
+        let mut planner = Planner {
             tariff,
             scheme,
             chooser,
-        }
+        };
+        planner.open();
+        planner
     }
 
     /// A planner newly opened, with places for all works reserved, above a chooser that is emptied.
@@ -52,7 +51,7 @@ impl<T: Tariff, C: Chooser> Planner<T, C> {
     /// Enters a work and answers its number.
     pub fn enter(&mut self, needs: Set, gives: Set) -> Result<u8, Refusal>
         ensures edit { Entered (task_of self.old.scheme) (of_parts needs gives) result (task_of self.new.scheme) }
-        ensures effect { Effect T.Tariff.scale C.Chooser.room (task_of self.old.scheme) (C.Chooser.kept self.old.chooser) (to_enter needs gives) (task_of self.new.scheme) (C.Chooser.kept self.new.chooser) }
+        ensures effect { Does T.Tariff.scale C.Chooser.room C.Chooser.kept self.old (to_enter needs gives) self.new }
     {
         let number = self.scheme.enter(Work { needs, gives })?;
         self.chooser.clear();
@@ -62,7 +61,7 @@ impl<T: Tariff, C: Chooser> Planner<T, C> {
     /// Replaces the needs and gives of a held work.
     pub fn amend(&mut self, work: u8, needs: Set, gives: Set) -> Result<(), Refusal>
         ensures edit { Amended (task_of self.old.scheme) work (of_parts needs gives) result (task_of self.new.scheme) }
-        ensures effect { Effect T.Tariff.scale C.Chooser.room (task_of self.old.scheme) (C.Chooser.kept self.old.chooser) (to_amend work needs gives) (task_of self.new.scheme) (C.Chooser.kept self.new.chooser) }
+        ensures effect { Does T.Tariff.scale C.Chooser.room C.Chooser.kept self.old (to_amend work needs gives) self.new }
     {
         self.scheme.amend(work, Work { needs, gives })?;
         self.chooser.clear();
@@ -72,20 +71,19 @@ impl<T: Tariff, C: Chooser> Planner<T, C> {
     /// Makes an item stand from the start; answers whether it was added.
     pub fn stand(&mut self, item: u8) -> Result<bool, Refusal>
         ensures edit { Stood (task_of self.old.scheme) item result (task_of self.new.scheme) }
-        ensures effect { Effect T.Tariff.scale C.Chooser.room (task_of self.old.scheme) (C.Chooser.kept self.old.chooser) (to_stand item) (task_of self.new.scheme) (C.Chooser.kept self.new.chooser) }
+        ensures effect { Does T.Tariff.scale C.Chooser.room C.Chooser.kept self.old (to_stand item) self.new }
     {
         let added = self.scheme.stand(item)?;
-        if !added {
-            return Ok(false);
+        if added {
+            self.chooser.clear();
         }
-        self.chooser.clear();
-        Ok(true)
+        Ok(added)
     }
 
     /// Adds a wanted item; answers whether it was added. Every landmark stays one.
     pub fn want(&mut self, item: u8) -> Result<bool, Refusal>
         ensures edit { Wanted (task_of self.old.scheme) item result (task_of self.new.scheme) }
-        ensures effect { Effect T.Tariff.scale C.Chooser.room (task_of self.old.scheme) (C.Chooser.kept self.old.chooser) (to_want item) (task_of self.new.scheme) (C.Chooser.kept self.new.chooser) }
+        ensures effect { Does T.Tariff.scale C.Chooser.room C.Chooser.kept self.old (to_want item) self.new }
     {
         self.scheme.want(item)
     }
@@ -93,7 +91,7 @@ impl<T: Tariff, C: Chooser> Planner<T, C> {
     /// Removes a wanted item.
     pub fn waive(&mut self, item: u8) -> Result<(), Refusal>
         ensures edit { Waived (task_of self.old.scheme) item result (task_of self.new.scheme) }
-        ensures effect { Effect T.Tariff.scale C.Chooser.room (task_of self.old.scheme) (C.Chooser.kept self.old.chooser) (to_waive item) (task_of self.new.scheme) (C.Chooser.kept self.new.chooser) }
+        ensures effect { Does T.Tariff.scale C.Chooser.room C.Chooser.kept self.old (to_waive item) self.new }
     {
         // Read for its contract: no set has an item above 63.
         let _wanted = self.scheme.wanted();

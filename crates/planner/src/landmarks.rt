@@ -38,9 +38,10 @@ impl<T, C: Chooser> Planner<T, C> {
         if places.len() < count {
             return Err(Refusal::ListTooShort);
         }
-        for place in 0..count {
+        let first = &mut places[..count];
+        for (place, number) in first.iter_mut().enumerate() {
             if let Some(landmark) = self.chooser.read(place) {
-                places[place] = landmark.bits();
+                *number = landmark.bits();
             }
         }
         Ok(count)

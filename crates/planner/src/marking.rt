@@ -1,20 +1,18 @@
 //! Marking a candidate's order.
-ghost use Rattle.std.specs.Prelude.{◌≡◌, ◌<◌, length};
+ghost use Rattle.std.specs.Prelude.{◌<◌, length};
 ghost use Rattle.scheme.specs.Task.{task_of};
 ghost use Rattle.tariff.specs.Amounts.{All};
-ghost use Rattle.rules.specs.Calls.Call.{mark as to_mark};
-ghost use Rattle.planner.specs.Asks.{Leads};
-ghost use Rattle.planner.specs.Papers.{task_from, FirstFlaw, Compares, MarkNumbers, MarksPromised, MarksPromisedAlone, StatedBy, Unasked};
+ghost use Rattle.planner.specs.Papers.{Compares, FirstBarred, FirstFlaw, Marks};
 
 use crate::types::Planner;
-use chooser::{Chooser, order_cost, set_cost};
-use rounds::{check_paper, find};
-use scheme::{Refusal, Scheme, Work};
+use chooser::{Chooser, Terms};
+use rounds::Question;
+use scheme::{Refusal, Scheme, Stop};
 use sets::Set;
 use tariff::Tariff;
 
 /// What keeps an order from being a plan.
-#[derive(Clone, Copy)]
+#[derive(Clone, Copy, PartialEq, Eq, Debug)]
 pub enum Flaw {
     /// The work at this place is barred.
     Barred { place: usize },
@@ -25,7 +23,7 @@ pub enum Flaw {
 }
 
 /// The verdict on a candidate's order: its first flaw, or its total beside the cheapest.
-#[derive(Clone, Copy)]
+#[derive(Clone, Copy, PartialEq, Eq, Debug)]
 pub enum Verdict<V> {
     Flawed(Flaw),
     Dearer(V),
@@ -34,72 +32,57 @@ pub enum Verdict<V> {
 
 impl<T: Tariff, C: Chooser> Planner<T, C> {
     /// Marks a candidate's order: its first flaw, or its total and whether a cheaper order does the same.
-    pub fn mark(
-        &mut self,
-        prices: &[T::Value],
-        bars: Set,
-        paper: &[u8],
-    ) -> Result<Verdict<T::Value>, Refusal>
-        ensures same { task_of self.new.scheme ≡ task_of self.old.scheme }
-        ensures since { Leads T.Tariff.scale C.Chooser.room (task_of self.old.scheme) (C.Chooser.kept self.old.chooser) (to_mark prices.now bars paper.now) (task_of self.new.scheme) (C.Chooser.kept self.new.chooser) }
-        ensures promised { MarksPromised T.Tariff.scale C.Chooser.room (task_of self.old.scheme) prices.now bars paper.now (C.Chooser.kept self.old.chooser) result (C.Chooser.kept self.new.chooser) }
-        ensures alone { MarksPromisedAlone T.Tariff.scale C.Chooser.room (task_of self.old.scheme) prices.now bars paper.now (C.Chooser.kept self.old.chooser) result (C.Chooser.kept self.new.chooser) }
-        ensures numbers { MarkNumbers T.Tariff.scale (task_of self.old.scheme) prices.now bars paper.now result }
-        ensures stated { StatedBy T.Tariff.scale (task_of self.old.scheme) prices.now bars paper.now result }
-        ensures unmoved { Unasked result (C.Chooser.kept self.old.chooser) (C.Chooser.kept self.new.chooser) }
+    pub fn mark(&mut self, terms: &Terms<'_, T>, paper: &[u8]) -> Result<Verdict<T::Value>, Refusal>
+        ensures { Marks T.Tariff.scale C.Chooser.room (task_of self.old.scheme) (C.Chooser.kept self.old.chooser) terms.now.prices.now terms.now.bars paper.now result (task_of self.new.scheme) (C.Chooser.kept self.new.chooser) }
     {
-        check_paper::<T>(&self.scheme, prices, bars, paper)?;
-        if let Some(flaw) = flaw_of(&self.scheme, bars, paper) {
+        let question = Question {
+            scheme: &self.scheme,
+            terms: *terms,
+        };
+        question.check_paper(paper)?;
+        if let Some(flaw) = first_flaw(&self.scheme, terms.bars, paper) {
             return Ok(Verdict::Flawed(flaw));
         }
-        let found = find::<T, C>(&self.scheme, prices, bars, &mut self.chooser)?;
-        Ok(compare::<T>(prices, found.set, paper))
+        let found = question.find(&mut self.chooser)?;
+        Ok(compare(terms, found.set, paper))
     }
 }
 
-/// The first flaw of a paper of held works, if it is no plan.
-fn flaw_of(scheme: &Scheme, bars: Set, paper: &[u8]) -> Option<Flaw>
+/// The first flaw of a paper of held works, if it is no plan: the works before the first barred one are carried out.
+fn first_flaw(scheme: &Scheme, bars: Set, paper: &[u8]) -> Option<Flaw>
     requires { All (λ w. w < length (task_of scheme.now).works) paper.now }
     ensures { FirstFlaw (task_of scheme.now) bars paper.now result }
 {
-    first_flaw(
-        scheme.works(),
-        scheme.standing(),
-        scheme.wanted(),
-        bars,
-        paper,
-    )
+    let barred = first_barred(bars, paper);
+    let free = barred.unwrap_or(paper.len());
+    match scheme.carry_out(&paper[..free]) {
+        Err(Stop::NotHeld { .. }) => unreachable!(),
+        Err(Stop::Lacking { place, item }) => Some(Flaw::Lacking { place, item }),
+        Ok(held) => match barred {
+            Some(place) => Some(Flaw::Barred { place }),
+            None => {
+                let item = scheme.wanted().minus(held).lowest()?;
+                Some(Flaw::Missing { item })
+            }
+        },
+    }
 }
 
-/// The first flaw of a paper of held works, from the standing items to the wanted ones.
-fn first_flaw(works: &[Work], standing: Set, wanted: Set, bars: Set, paper: &[u8]) -> Option<Flaw>
-    requires { All (λ w. w < length works.now) paper.now }
-    ensures { FirstFlaw (task_from works.now standing wanted) bars paper.now result }
+/// The first place of a paper at which a barred work stands.
+fn first_barred(bars: Set, paper: &[u8]) -> Option<usize>
+    ensures { FirstBarred bars paper.now result }
 {
-    let mut held = standing;
-    for (place, number) in paper.iter().enumerate() {
-        let w = *number as usize;
-        if bars.contains(w) {
-            return Some(Flaw::Barred { place });
-        }
-        let work = works[w];
-        if let Some(item) = work.needs.minus(held).lowest() {
-            return Some(Flaw::Lacking { place, item });
-        }
-        held = held.union(work.gives);
-    }
-    if let Some(item) = wanted.minus(held).lowest() {
-        return Some(Flaw::Missing { item });
-    }
-    None
+    paper
+        .iter()
+        .position(|number| bars.contains(*number as usize))
 }
 
 /// The total of a paper, beside that of the cheapest set.
-fn compare<T: Tariff>(prices: &[T::Value], best: Set, paper: &[u8]) -> Verdict<T::Value>
-    ensures { Compares T.Tariff.scale prices.now best paper.now result }
+fn compare<T: Tariff>(terms: &Terms<'_, T>, best: Set, paper: &[u8]) -> Verdict<T::Value>
+    ensures { Compares T.Tariff.scale terms.now.prices.now best paper.now result }
 {
-    let total = order_cost::<T>(prices, paper);
-    if T::is_less(set_cost::<T>(prices, best), total) {
+    let total = terms.order_cost(paper);
+    if T::is_less(terms.set_cost(best), total) {
         Verdict::Dearer(total)
     } else {
         Verdict::Cheapest(total)

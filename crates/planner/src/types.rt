@@ -1,9 +1,11 @@
 //! Planners and their answers.
+use chooser::Terms;
 use scheme::Scheme;
 use sets::Set;
+use tariff::Tariff;
 
 /// What a question answers: how many works its order has, its total, and the rounds that were made.
-#[derive(Clone, Copy)]
+#[derive(Clone, Copy, PartialEq, Eq, Debug)]
 pub struct Answer<V> {
     pub length: usize,
     pub total: V,
@@ -11,8 +13,8 @@ pub struct Answer<V> {
 }
 
 /// One call on a planner, for a list of calls.
-#[derive(Drop)]
-pub enum Request<'a, V> {
+#[derive_where(Clone, Copy)]
+pub enum Request<'a, T: Tariff> {
     Enter {
         needs: Set,
         gives: Set,
@@ -32,13 +34,11 @@ pub enum Request<'a, V> {
         item: u8,
     },
     Mark {
-        prices: &'a [V],
-        bars: Set,
+        terms: Terms<'a, T>,
         paper: &'a [u8],
     },
     Ask {
-        prices: &'a [V],
-        bars: Set,
+        terms: Terms<'a, T>,
         places: usize,
     },
 }

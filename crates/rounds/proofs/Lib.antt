@@ -1,4 +1,3 @@
-pub mod Exits
+pub mod Tested
 pub mod Free
-pub mod Legible
 pub mod Settling

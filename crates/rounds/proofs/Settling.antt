@@ -19,7 +19,7 @@ module _ {V : Type 0} (t : Scale V) (capacity : ℕ) (k : Task) (prices : List V
       Settles t capacity k prices bars kept found to n
   settles_first (Some s) to n why run ready = at_once (run ready)
   settles_first None to n why run ready =
-      from_none (⊎_elim (λ (e : false ≡ true). let z : ◌≡◌ {A = ℕ} 0 1 = cc in absurd (omega arith)) (none_kept kept) why) (run ready)
+      from_none (⊎_elim (λ (e : false ≡ true). absurd cc) (none_kept kept) why) (run ready)
 
   -- one that spent the capacity over kept landmarks is followed by one from none
   pub settles_anew :
@@ -30,8 +30,7 @@ module _ {V : Type 0} (t : Scale V) (capacity : ℕ) (k : Task) (prices : List V
       Runs t capacity k prices bars kept first mid m →
       Runs t capacity k prices bars start found to n →
       Settles t capacity k prices bars kept found to (m + n)
-  settles_anew (Some s) found mid start to m n e some none run again ready =
-      let z : ◌≡◌ {A = ℕ} 0 1 = cc in absurd (omega arith)
+  settles_anew (Some s) found mid start to m n e some none run again ready = absurd cc
   settles_anew None found mid start to m n e some none run again ready =
       let P : List Set → Type 0 = λ x. Runs t capacity k prices bars x found to n in
       let from = subst P none again in

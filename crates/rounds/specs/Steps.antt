@@ -9,7 +9,8 @@ use Rattle.scheme.specs.Landmarks.{Landmark}
 use Rattle.tariff.specs.Amounts.{Scale, All}
 use Rattle.rules.specs.Rules.{Ending, Unbarred, Run, Settled}
 use Rattle.rules.specs.Rules.Ending.{reached, exhausted}
-use Rattle.rules.specs.Calls.{Fair}
+use Rattle.rules.specs.Calls.{Fair, Valid}
+use Rattle.rounds.specs.Checks.{Misput}
 use Rattle.rounds.specs.declared.finding.Found.{Found}
 
 -- the ending that a found set, or none, stands for
@@ -39,3 +40,11 @@ Finds t capacity k prices bars kept (Ok f) to =
 Finds t capacity k prices bars kept (Err e) to =
     ((number_of e ≡ 9) × (Sufficient k (Unbarred bars) → ⊥) × (to ≡ kept))
     ⊎ ((number_of e ≡ 10) × Sufficient k (Unbarred bars) × ((n : ℕ) × Settles t capacity k prices bars kept None to n))
+
+-- A question that is put: refused for its arguments, or searched for its cheapest set. The order is not written.
+abbrev pub Puts : {V : Type 0} → Scale V → ℕ → Task → List V → Set → ℕ → List Set → Result Found Refusal → List Set → Type 0
+Puts t capacity k prices bars places kept (Ok f) to =
+    Valid t k prices bars places × Finds t capacity k prices bars kept (Ok f) to
+Puts t capacity k prices bars places kept (Err e) to =
+    (Misput t k prices bars places e × (to ≡ kept))
+    ⊎ (Valid t k prices bars places × Finds t capacity k prices bars kept (Err e) to)

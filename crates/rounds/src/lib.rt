@@ -1,5 +1,6 @@
 //! The rounds of a question: from a scheme, prices, bars and a chooser to the cheapest sufficient set of works.
 //!
+//! - `question`: what is asked.
 //! - `checks`: what a question or a marking is refused for before anything is done.
 //! - `runs`: rounds of a draw and a landmark, until the drawn set is sufficient.
 //! - `finding`: the cheapest sufficient set of unbarred works.
@@ -7,7 +8,8 @@
 
 mod checks;
 mod finding;
+mod question;
 mod runs;
 
-pub use checks::{check_paper, check_question};
-pub use finding::{Found, find};
+pub use finding::Found;
+pub use question::Question;

@@ -1,57 +1,22 @@
-use Rattle.std.proofs.Common.{Result}
-use Rattle.scheme.specs.Task.{task_of}
-use Rattle.scheme.specs.declared.refusals.Refusal.{Refusal}
-use Rattle.planner.specs.declared.marking.Verdict.{Verdict}
-use Rattle.rounds.proofs.Exits.{refusal_passed}
-use Rattle.planner.proofs.Judging.{Marks, marked_illegible, marked_flawed, marked_refused, marked_compared}
+use Rattle.std.proofs.lemmas.Result.{err_from_is_err_and}
+use Rattle.planner.proofs.Judging.{marked_illegible, marked_flawed, marked_refused, marked_compared}
 use Rattle.planner.proofs.types.Planner.mark.Goals as goal
 
 pub returns-in_err-check_paper : goal.returns-in_err-check_paper
 returns-in_err-check_paper g c =
-    let t = g.T.Tariff.scale in
-    let k = task_of c.args.self.now.scheme in
-    let kept = g.C.Chooser.kept c.args.self.now.chooser in
-    let Answers : Result (Verdict g.row.T-Value.Denot) Refusal → Type 0 = λ r.
-    Marks t g.C.Chooser.room k kept c.args.prices.now c.args.bars c.args.paper.now r k kept
-    in
-    let a =
-    refusal_passed Answers c.from_residual.result c.in_err-check_paper.field-0.0 c.from_residual.ensures.1
-    (marked_illegible t g.C.Chooser.room k c.args.prices.now c.args.bars c.args.paper.now kept
-    c.in_err-check_paper.field-0.0 c.in_err-check_paper.ensures)
-    in
-    record { same = a.same; since = a.since; promised = a.promised; alone = a.alone; numbers = a.numbers; stated = a.stated; unmoved = a.unmoved }
+    let p = err_from_is_err_and c.from_residual.result c.from_residual.ensures.1 in
+    rw (p.1, p.2) (marked_illegible _ _ _ _ _ _ _ _ c.in_err-check_paper.ensures)
 
 pub returns-in-Some : goal.returns-in-Some
-returns-in-Some g c =
-    let a =
-    marked_flawed g.T.Tariff.scale g.C.Chooser.room (task_of c.args.self.now.scheme) c.args.prices.now c.args.bars
-    c.args.paper.now (g.C.Chooser.kept c.args.self.now.chooser) c.in_ok-check_paper.ensures c.in-Some.flaw
-    c.in-Some.ensures
-    in
-    record { same = a.same; since = a.since; promised = a.promised; alone = a.alone; numbers = a.numbers; stated = a.stated; unmoved = a.unmoved }
+returns-in-Some g c = marked_flawed _ _ _ _ _ _ _ c.in_ok-check_paper.ensures _ c.in-Some.ensures
 
 pub returns-in_err-found : goal.returns-in_err-found
 returns-in_err-found g c =
-    let t = g.T.Tariff.scale in
-    let k = task_of c.args.self.now.scheme in
-    let kept = g.C.Chooser.kept c.args.self.now.chooser in
-    let to = g.C.Chooser.kept c.find.new.chooser in
-    let Answers : Result (Verdict g.row.T-Value.Denot) Refusal → Type 0 = λ r.
-    Marks t g.C.Chooser.room k kept c.args.prices.now c.args.bars c.args.paper.now r k to
-    in
-    let a =
-    refusal_passed Answers c.from_residual-in_err-found.result c.in_err-found.field-0.0 c.from_residual-in_err-found.ensures.1
-    (marked_refused t g.C.Chooser.room k c.args.prices.now c.args.bars c.args.paper.now kept
-    c.in_ok-check_paper.ensures c.in_default.ensures c.in_err-found.field-0.0 to c.in_err-found.ensures)
-    in
-    record { same = a.same; since = a.since; promised = a.promised; alone = a.alone; numbers = a.numbers; stated = a.stated; unmoved = a.unmoved }
+    let p = err_from_is_err_and c.from_residual-in_err-found.result c.from_residual-in_err-found.ensures.1 in
+    rw (p.1, p.2)
+    (marked_refused _ _ _ _ _ _ _ c.in_ok-check_paper.ensures c.in_default.ensures _ _ c.in_err-found.ensures)
 
 pub returns : goal.returns
 returns g c =
-    let a =
-    marked_compared g.T.Tariff.scale g.C.Chooser.room (task_of c.args.self.now.scheme) c.args.prices.now c.args.bars
-    c.args.paper.now (g.C.Chooser.kept c.args.self.now.chooser) c.in_ok-check_paper.ensures
-    c.in_default.ensures c.in_ok-found.found c.compare.result (g.C.Chooser.kept c.find.new.chooser)
+    marked_compared _ _ _ _ _ _ _ c.in_ok-check_paper.ensures c.in_default.ensures c.in_ok-found.found _ _
     c.in_ok-found.ensures c.compare.ensures
-    in
-    record { same = a.same; since = a.since; promised = a.promised; alone = a.alone; numbers = a.numbers; stated = a.stated; unmoved = a.unmoved }
