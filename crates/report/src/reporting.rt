@@ -11,7 +11,7 @@ ghost use Rattle.report.specs.Report.{Reported, Tells};
 use crate::answers::Lines;
 use crate::refusals::RefusalLine;
 use arrayvec::ArrayVec;
-use chooser::Chooser;
+use chooser::{Chooser, Terms};
 use page::publish;
 use planner::Planner;
 use scheme_file::{Cause, ItemRow, WorkRow};
@@ -56,7 +56,11 @@ fn report_scheme<C: Chooser>(
     }
     // A lent list of places for 64 works: a question has no memory of its own.
     let mut order = [0u8; 64];
-    match planner.ask(pounds.as_slice(), Set::empty(), &mut order) {
+    let terms = Terms {
+        prices: pounds.as_slice(),
+        bars: Set::empty(),
+    };
+    match planner.ask(&terms, &mut order) {
         Ok(answer) => {
             let lines = Lines {
                 bytes,
