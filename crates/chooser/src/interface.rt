@@ -3,6 +3,7 @@ ghost use Rattle.std.specs.Prelude.{◌≡◌, ℕ, ◌<◌, ◌≤◌, List, []
 ghost use Rattle.sets.specs.declared.Set.{Set};
 ghost use Rattle.chooser.specs.Least.{Draws};
 
+use crate::Terms;
 use sets::Set;
 use tariff::Tariff;
 
@@ -45,8 +46,8 @@ pub trait Chooser {
 
     /// The least set of unbarred works that meets every kept set, if there is one: the lowest total first, then the lowest set number.
     /// A work past the end of the prices, or priced above the ceiling, counts as barred.
-    fn draw<T: Tariff>(&self, prices: &[T::Value], bars: Set) -> Option<Set>
-        ensures { Draws T.Tariff.scale prices.now bars (kept self.now) result };
+    fn draw<T: Tariff>(&self, terms: &Terms<'_, T>) -> Option<Set>
+        ensures { Draws T.Tariff.scale terms.now.prices.now terms.now.bars (kept self.now) result };
 
     ghost small: { (1 ≤ room) × (room ≤ 4096) };
 

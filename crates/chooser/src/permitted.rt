@@ -4,21 +4,24 @@ ghost use Rattle.sets.specs.Member.{Has, Members};
 ghost use Rattle.chooser.specs.Least.{Allowed, Capped};
 ghost use Rattle.chooser.specs.Steps.{Gathered, Held};
 
+use crate::Terms;
 use sets::Set;
 use tariff::Tariff;
 
-/// The works that have a price within the ceiling and are not barred.
-pub fn allowed<T: Tariff>(prices: &[T::Value], bars: Set) -> Set
-    ensures { Members result (λ w. Allowed T.Tariff.scale prices.now bars w × (w < 64)) }
-{
-    capped::<T>(prices).minus(bars)
-}
+impl<T: Tariff> Terms<'_, T> {
+    /// The works that have a price within the ceiling and are not barred.
+    pub fn allowed(&self) -> Set
+        ensures { Members result (λ w. Allowed T.Tariff.scale self.now.prices.now self.now.bars w × (w < 64)) }
+    {
+        capped::<T>(self.prices).minus(self.bars)
+    }
 
-/// The works that a draw need look at: the allowed ones that are in some kept set.
-pub fn candidates<T: Tariff>(prices: &[T::Value], bars: Set, kept: &[Set]) -> Set
-    ensures { Members result (λ w. Allowed T.Tariff.scale prices.now bars w × Held kept.now w) }
-{
-    gather(allowed::<T>(prices, bars), kept)
+    /// The works that a draw need look at: the allowed ones that are in some kept set.
+    pub fn candidates(&self, kept: &[Set]) -> Set
+        ensures { Members result (λ w. Allowed T.Tariff.scale self.now.prices.now self.now.bars w × Held kept.now w) }
+    {
+        gather(self.allowed(), kept)
+    }
 }
 
 /// The members of a set that are in some kept set.

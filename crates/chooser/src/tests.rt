@@ -1,6 +1,7 @@
 //! A few prices in pounds, and in hours and pounds.
-use crate::{allowed, candidates, order_cost, precedes, set_cost};
+use crate::Terms;
 use sets::Set;
+use tariff::Tariff;
 use tariff::hours_first::{HoursAndPounds, HoursFirst};
 use tariff::pounds::Pounds;
 
@@ -17,19 +18,26 @@ const IN_HOURS: [HoursAndPounds; 2] = [
     },
 ];
 
+/// These prices, and no bars.
+fn unbarred<T: Tariff>(prices: &[T::Value]) -> Terms<'_, T> {
+    Terms {
+        prices,
+        bars: Set::empty(),
+    }
+}
+
 #[test]
 fn pounds(rt: HostRuntime) {
-    assert_eq!(rt;
-        allowed::<Pounds>(&IN_POUNDS, Set::only(1)),
-        Set::from_bits(0b1001)
-    );
+    let barred: Terms<'_, Pounds> = Terms {
+        prices: &IN_POUNDS,
+        bars: Set::only(1),
+    };
+    assert_eq!(rt; barred.allowed(), Set::from_bits(0b1001));
+    let terms = unbarred::<Pounds>(&IN_POUNDS);
     let kept = [Set::from_bits(0b1010), Set::from_bits(0b1100)];
-    assert_eq!(rt;
-        candidates::<Pounds>(&IN_POUNDS, Set::empty(), &kept),
-        Set::from_bits(0b1010)
-    );
-    assert_eq!(rt; set_cost::<Pounds>(&IN_POUNDS, Set::from_bits(0b1011)), 10);
-    assert_eq!(rt; order_cost::<Pounds>(&IN_POUNDS, &[0, 3, 0]), 8);
+    assert_eq!(rt; terms.candidates(&kept), Set::from_bits(0b1010));
+    assert_eq!(rt; terms.set_cost(Set::from_bits(0b1011)), 10);
+    assert_eq!(rt; terms.order_cost(&[0, 3, 0]), 8);
 }
 
 #[test]
@@ -38,15 +46,17 @@ fn hours_and_pounds(rt: HostRuntime) {
         hours: 3,
         pounds: 13,
     };
-    assert_eq!(rt; set_cost::<HoursFirst>(&IN_HOURS, Set::below(2)), both);
-    assert!(rt; precedes::<HoursFirst>(&IN_HOURS, Set::only(0), Set::only(1)));
+    let terms = unbarred::<HoursFirst>(&IN_HOURS);
+    assert_eq!(rt; terms.set_cost(Set::below(2)), both);
+    assert!(rt; terms.precedes(Set::only(0), Set::only(1)));
 }
 
 #[test]
 fn equal_totals(rt: HostRuntime) {
     let one = Set::only(1);
     let two = Set::from_bits(0b1001);
-    assert!(rt; precedes::<Pounds>(&IN_POUNDS, one, two));
-    assert!(rt; !precedes::<Pounds>(&IN_POUNDS, two, one));
-    assert!(rt; precedes::<Pounds>(&IN_POUNDS, one, one));
+    let terms = unbarred::<Pounds>(&IN_POUNDS);
+    assert!(rt; terms.precedes(one, two));
+    assert!(rt; !terms.precedes(two, one));
+    assert!(rt; terms.precedes(one, one));
 }

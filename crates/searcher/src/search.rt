@@ -16,7 +16,7 @@ pub(crate) struct Walked {
 impl<T: Tariff> Draw<'_, T> {
     /// The first of the sets of the works that meet every kept set, if there is one.
     pub(crate) fn least(&self) -> Walked
-        ensures { Searched T.Tariff.scale self.now.prices.now self.now.works self.now.sets.now result.best }
+        ensures { Searched T.Tariff.scale self.now.terms.prices.now self.now.works self.now.sets.now result.best }
     {
         let all = Node {
             chosen: Set::empty(),
@@ -32,7 +32,7 @@ impl<T: Tariff> Draw<'_, T> {
     fn walk(&self, node: Node, best: Option<Set>, nodes: &mut u64) -> Option<Set>
         requires node { Of self.now.works node }
         requires best { Best self.now.works self.now.sets.now best }
-        ensures { Closed T.Tariff.scale self.now.prices.now self.now.works self.now.sets.now node best result }
+        ensures { Closed T.Tariff.scale self.now.terms.prices.now self.now.works self.now.sets.now node best result }
     {
         *nodes = nodes.wrapping_add(1);
         if self.is_beaten(node, best) {

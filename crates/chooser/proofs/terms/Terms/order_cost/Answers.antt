@@ -3,16 +3,16 @@ use Rattle.std.proofs.lemmas.List.{take_all}
 use Rattle.tariff.proofs.Sums.{all_at}
 use Rattle.chooser.specs.Least.{Capped, order_cost}
 use Rattle.chooser.proofs.Tallies.{bill_none, bill_more}
-use Rattle.chooser.proofs.costs.order_cost.Goals as goal
+use Rattle.chooser.proofs.terms.Terms.order_cost.Goals as goal
 
 pub loop-number-init : goal.loop-number-init
 loop-number-init g c _ _ =
-    bill_none g.T.Tariff.scale c.args.prices.now c.args.order.now c.nothing-total.result c.nothing-total.ensures
+    bill_none g.T.Tariff.scale c.args.self.now.prices.now c.args.order.now c.nothing-total.result c.nothing-total.ensures
 
 pub loop-number-preserved : goal.loop-number-preserved
 loop-number-preserved g c short capped =
     let t = g.T.Tariff.scale in
-    let prices = c.args.prices.now in
+    let prices = c.args.self.now.prices.now in
     let order = c.args.order.now in
     let place = c.loop-number.number-index in
     let lt = c.loop-number-test.true in
@@ -22,5 +22,5 @@ loop-number-preserved g c short capped =
 pub returns : goal.returns
 returns g c short capped =
     (c.loop-number.invariant short capped).whole
-    ∙ ap (order_cost g.T.Tariff.scale c.args.prices.now)
+    ∙ ap (order_cost g.T.Tariff.scale c.args.self.now.prices.now)
     (take_all c.loop-number.number-index c.args.order.now c.loop-number-test.false)
