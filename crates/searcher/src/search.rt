@@ -28,7 +28,7 @@ impl<T: Tariff> Draw<'_, T> {
     }
 
     /// The best set so far once a node is done, where each node that it goes through is counted. A node that may better the best set is
-    /// split by a free work of a kept set that is not met; its parts have one free work fewer.
+    /// split by a free work of a kept set that is not met; its parts have one free work fewer, so that no node is more than 64 splits deep.
     fn walk(&self, node: Node, best: Option<Set>, nodes: &mut u64) -> Option<Set>
         requires node { Of self.now.works node }
         requires best { Best self.now.works self.now.sets.now best }
