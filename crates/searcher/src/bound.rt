@@ -15,7 +15,7 @@ use tariff::Tariff;
 impl<T: Tariff> Draw<'_, T> {
     /// Works whose cost no set of a node that meets the kept sets falls below: the cheapest free work of each set that counts.
     pub(crate) fn lower_bound(&self, node: Node) -> Set
-        ensures { SetCapped T.Tariff.scale self.now.prices.now node.free → Bounds T.Tariff.scale self.now.prices.now self.now.sets.now node result }
+        ensures { SetCapped T.Tariff.scale self.now.terms.prices.now node.free → Bounds T.Tariff.scale self.now.terms.prices.now self.now.sets.now node result }
     {
         self.bound(node, |works| self.cheapest(works))
     }

@@ -13,8 +13,6 @@
 //! - `node`: a part of the sets of works.
 #![tactic(auto)]
 
-ghost use Rattle.std.specs.Prelude.{◌≤◌, vec_len, vec_capacity};
-
 mod bound;
 mod branching;
 mod cheapest;
@@ -26,14 +24,15 @@ mod node;
 mod pruning;
 mod search;
 
-use sets::Set;
+use chooser::Kept;
+
+/// How many sets a searcher can keep.
+const ROOM: usize = 64;
 
 /// A chooser for up to 64 sets. A draw allocates nothing.
 #[derive(Drop)]
 pub struct Searcher {
-    sets: Vec<Set>,
-    ghost few: { vec_len sets ≤ 64 },
-    ghost reserved: { 64 ≤ vec_capacity sets },
+    kept: Kept<ROOM>,
 }
 
 #[cfg(test)]

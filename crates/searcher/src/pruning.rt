@@ -6,8 +6,8 @@ ghost use Rattle.searcher.specs.Nodes.{Best, Better, Of, Settled};
 
 use crate::draw::Draw;
 use crate::node::Node;
-use chooser::{precedes, set_cost};
 use sets::Set;
+use std::cmp::Ordering;
 use tariff::Tariff;
 
 impl<T: Tariff> Draw<'_, T> {
@@ -15,22 +15,23 @@ impl<T: Tariff> Draw<'_, T> {
     pub(crate) fn is_beaten(&self, node: Node, best: Option<Set>) -> bool
         requires node { Of self.now.works node }
         requires best { Best self.now.works self.now.sets.now best }
-        ensures { MatchBool result (Settled T.Tariff.scale self.now.prices.now self.now.sets.now best node) (Better T.Tariff.scale self.now.prices.now node.chosen best) }
+        ensures { MatchBool result (Settled T.Tariff.scale self.now.terms.prices.now self.now.sets.now best node) (Better T.Tariff.scale self.now.terms.prices.now node.chosen best) }
     {
         let Some(set) = best else {
             return false;
         };
-        precedes::<T>(self.prices, set, node.chosen)
-            || self.outdoes(set, node, self.lower_bound(node))
+        self.terms.precedes(set, node.chosen) || self.outdoes(set, node, self.lower_bound(node))
     }
 
     /// Whether a set costs less than a bound, or no more while its number is not above that of any set of a node that meets the kept sets.
     fn outdoes(&self, set: Set, node: Node, bound: Set) -> bool
-        ensures { SetCapped T.Tariff.scale self.now.prices.now set → SetCapped T.Tariff.scale self.now.prices.now bound → IsTrue result → Outdoes T.Tariff.scale self.now.prices.now self.now.sets.now node set bound }
+        ensures { SetCapped T.Tariff.scale self.now.terms.prices.now set → SetCapped T.Tariff.scale self.now.terms.prices.now bound → IsTrue result → Outdoes T.Tariff.scale self.now.terms.prices.now self.now.sets.now node set bound }
     {
-        let own = set_cost::<T>(self.prices, set);
-        let least = set_cost::<T>(self.prices, bound);
-        T::is_less(own, least) || !T::is_less(least, own) && self.is_floor(node, set)
+        match self.terms.compare_costs(set, bound) {
+            Ordering::Less => true,
+            Ordering::Equal => self.is_floor(node, set),
+            Ordering::Greater => false,
+        }
     }
 
     /// Whether the number of a set is known not to be above that of any set of a node that meets the kept sets.

@@ -16,7 +16,7 @@ pub(crate) struct Walked {
 impl<T: Tariff> Draw<'_, T> {
     /// The first of the sets of the works that meet every kept set, if there is one.
     pub(crate) fn least(&self) -> Walked
-        ensures { Searched T.Tariff.scale self.now.prices.now self.now.works self.now.sets.now result.best }
+        ensures { Searched T.Tariff.scale self.now.terms.prices.now self.now.works self.now.sets.now result.best }
     {
         let all = Node {
             chosen: Set::empty(),
@@ -28,11 +28,11 @@ impl<T: Tariff> Draw<'_, T> {
     }
 
     /// The best set so far once a node is done, where each node that it goes through is counted. A node that may better the best set is
-    /// split by a free work of a kept set that is not met; its parts have one free work fewer.
+    /// split by a free work of a kept set that is not met; its parts have one free work fewer, so that no node is more than 64 splits deep.
     fn walk(&self, node: Node, best: Option<Set>, nodes: &mut u64) -> Option<Set>
         requires node { Of self.now.works node }
         requires best { Best self.now.works self.now.sets.now best }
-        ensures { Closed T.Tariff.scale self.now.prices.now self.now.works self.now.sets.now node best result }
+        ensures { Closed T.Tariff.scale self.now.terms.prices.now self.now.works self.now.sets.now node best result }
     {
         *nodes = nodes.wrapping_add(1);
         if self.is_beaten(node, best) {

@@ -4,5 +4,5 @@ use Rattle.searcher.proofs.draw.Draw.cheapest.Goals as goal
 
 pub returns : goal.returns
 returns g c =
-    reduced g.T.Tariff.scale c.args.self.now.prices.now _ _ (λ v w r h k. search rules) c.args.set c.iter.result c.reduce.result c.iter.ensures
+    reduced g.T.Tariff.scale c.args.self.now.terms.prices.now _ _ (λ v w r h k. search rules) c.args.set c.iter.result c.reduce.result c.iter.ensures
     c.reduce.ensures.ran

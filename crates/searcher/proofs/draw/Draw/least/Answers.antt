@@ -7,5 +7,5 @@ walk-best-requires-clause-node g c = whole c.args.self.now.works _ c.empty.ensur
 
 pub returns : goal.returns
 returns g c =
-    searched c.args.self.now.works _ c.empty.ensures refl g.T.Tariff.scale c.args.self.now.prices.now c.args.self.now.sets.now
+    searched c.args.self.now.works _ c.empty.ensures refl g.T.Tariff.scale c.args.self.now.terms.prices.now c.args.self.now.sets.now
     c.walk-best.result c.walk-best.ensures

@@ -4,5 +4,5 @@ use Rattle.searcher.proofs.draw.Draw.lower_bound.Goals as goal
 
 pub returns : goal.returns
 returns g c =
-    bounds_picked g.T.Tariff.scale c.args.self.now.prices.now _ c.args.self.now.sets.now c.args.node c.bound.result c.bound.ensures.taken
+    bounds_picked g.T.Tariff.scale c.args.self.now.terms.prices.now _ c.args.self.now.sets.now c.args.node c.bound.result c.bound.ensures.taken
     c.bound.ensures.paired (λ shared w p. search rules)
