@@ -1,5 +1,5 @@
 -- What follows of landmarks, and of how one is drawn.
-use Rattle.std.proofs.Common.{◌≡◌, ℕ, zero, suc, ◌+◌, ◌<◌, ◌≤◌, ◌⊎◌, List, length, sym, refl, subst, inl, inr, ⊎_elim, add-one, arith}
+use Rattle.std.proofs.Common.{◌≡◌, ℕ, zero, suc, ◌<◌, ◌≤◌, ◌⊎◌, List, length, sym, refl, subst, inl, inr, ⊎_elim, arith}
 use native.Mathlib.Decide.{dec_lt}
 use Rattle.sets.specs.declared.Set.{Set}
 use Rattle.sets.specs.Member.{Has, Members, Sub, Meet}
@@ -212,29 +212,29 @@ module _ (k : Task) (s : Set) where
   grown_all g = record { from = g.from; only = g.only; lacks = g.lacks; takes = g.takes }
 
   -- the grown set with n, as a trial of n
-  module _ {n : ℕ} {g : Set} (more : Set) (h : GrownTo k s n g) (room : n < 64) (adds : Members more (λ v. Has g v ⊎ ((v ≡ n) × (n < 64)))) where
+  module _ {n : ℕ} {g : Set} (more : Set) (h : GrownTo k s n g) (adds : Members more (λ v. Has g v ⊎ (v ≡ n))) where
     trial_of : Sufficient k (Has more) → Sufficient k (Trial s g n)
     trial_of =
         sufficient_grows k (Has more) (Trial s g n)
-        (λ v held y. ⊎_elim (λ z. ⊎_elim inl (λ lt. inr (inl (z, lt))) (h.only v z)) (λ e. inr (inr e.0)) ((adds v).0 y))
+        (λ v held y. ⊎_elim (λ z. ⊎_elim inl (λ lt. inr (inl (z, lt))) (h.only v z)) (λ e. inr (inr e)) ((adds v).0 y))
 
     of_trial : Sufficient k (Trial s g n) → Sufficient k (Has more)
     of_trial =
         sufficient_grows k (Trial s g n) (Has more)
-        (λ v held. ⊎_elim (λ y. (adds v).1 (inl (h.from v y))) (⊎_elim (λ p. (adds v).1 (inl p.0)) (λ e. (adds v).1 (inr (e, room)))))
+        (λ v held. ⊎_elim (λ y. (adds v).1 (inl (h.from v y))) (⊎_elim (λ p. (adds v).1 (inl p.0)) (λ e. (adds v).1 (inr e))))
 
     -- n is added, since the set stays insufficient with it
-    pub grown_with : (Sufficient k (Has more) → ⊥) → GrownTo k s (n + 1) more
+    pub grown_with : (Sufficient k (Has more) → ⊥) → GrownTo k s (suc n) more
     grown_with short =
-        rw add-one (grown_more n g more h (λ v. (
-          λ y. ⊎_elim inl (λ e. inr (e.0, λ enough. short (of_trial enough))) ((adds v).0 y),
-          ⊎_elim (λ y. (adds v).1 (inl y)) (λ p. (adds v).1 (inr (p.0, room))),
-        )))
+        grown_more n g more h (λ v. (
+          λ y. ⊎_elim inl (λ e. inr (e, λ enough. short (of_trial enough))) ((adds v).0 y),
+          ⊎_elim (λ y. (adds v).1 (inl y)) (λ p. (adds v).1 (inr p.0)),
+        ))
 
     -- n is left out, since the set is sufficient with it
-    pub grown_over : Sufficient k (Has more) → GrownTo k s (n + 1) g
+    pub grown_over : Sufficient k (Has more) → GrownTo k s (suc n) g
     grown_over enough =
-        rw add-one (grown_more n g g h (λ v. (inl, ⊎_elim (λ y. y) (λ p. absurd (p.1 (trial_of enough))))))
+        grown_more n g g h (λ v. (inl, ⊎_elim (λ y. y) (λ p. absurd (p.1 (trial_of enough)))))
 
   grown_to : (n : ℕ) → (g : Set) × GrownTo k s n g
   grown_to zero = (s, grown_none)

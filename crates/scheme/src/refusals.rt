@@ -5,7 +5,7 @@ ghost use Rattle.scheme.specs.Refusals.{number_of, reason_of};
 use std::error::Error;
 use std::fmt;
 
-/// Why a call was refused, by number. A refused call changes nothing, but for the landmarks kept when the capacity is spent.
+/// Why a call was refused. A refused call changes nothing, but for the landmarks kept when the capacity is spent.
 #[derive(Clone, Copy, PartialEq, Eq, Debug)]
 pub enum Refusal {
     /// An item above 63.
