@@ -13,6 +13,7 @@ use scheme::{Refusal, Scheme, Work};
 use sets::Set;
 
 /// The row of the item at an offset.
+// A row tells the offset of its name in all the bytes, so a struct of the bytes and an offset would be no plainer.
 fn item_row(bytes: &[u8], at: usize) -> ItemRow
     requires { (at + 5 ≤ length bytes.now) × (3 ≤ size (drop at bytes.now)) × (at + 2 + size (drop at bytes.now) ≤ length bytes.now) }
     ensures number { result.number ≡ slice_index bytes.now (at + 4) }

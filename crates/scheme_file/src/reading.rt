@@ -15,6 +15,7 @@ pub const INPUT: u64 = 7_009;
 
 /// Reads a file: opens the scheme anew, enters its works, makes its items stand and be wanted, and fills the first rows. A fault leaves
 /// all as it was.
+// The lists are lent by the caller, each by itself.
 pub fn read(
     bytes: &[u8],
     scheme: &mut Scheme,

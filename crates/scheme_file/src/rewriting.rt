@@ -37,6 +37,7 @@ impl From<Cause> for Failure {
 }
 
 /// Reads a file and writes it back: the same bytes. Answers their number.
+// The lists are lent by the caller, each by itself.
 pub fn rewrite(
     bytes: &[u8],
     scheme: &mut Scheme,

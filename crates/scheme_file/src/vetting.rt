@@ -57,6 +57,7 @@ fn work_size(row: WorkRow, text: &[u8]) -> Result<usize, Cause>
 }
 
 /// How many bytes the records of the works have.
+// One loop over both kinds of row would be no plainer: that over the items takes the least number along.
 pub fn works_size(works: &[Work], rows: &[WorkRow], text: &[u8]) -> Result<usize, Cause>
     requires { length works.now ≤ 64 }
     ensures { MatchResult result (λ n. WorksFit works.now rows.now text.now × (n ≡ length (bytes_of (map work_record (entries text.now works.now rows.now)))) × (n ≤ 4096)) (λ c. (c ≡ Rows) × (WorksFit works.now rows.now text.now → ⊥)) }

@@ -11,6 +11,7 @@ use crate::vetting::{items_size, works_size};
 use scheme::Scheme;
 
 /// Writes the file of a scheme, with one row for each work, and answers its length. The names lie in `text`. A refusal leaves `out` as it was.
+// The lists are lent by the caller, each by itself.
 pub fn write(
     scheme: &Scheme,
     works: &[WorkRow],

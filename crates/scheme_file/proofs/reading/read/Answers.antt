@@ -11,7 +11,7 @@ use Rattle.scheme_file.proofs.Wholes.{reads_bound, whole_itemed, whole_short, wh
 use Rattle.scheme_file.proofs.reading.read.Goals as goal
 
 pub overflow_sub-result-then-works-counts : goal.overflow_sub-result-then-works-counts
-overflow_sub-result-then-works-counts c = (whole_some c.in_ok-end.ensures).1
+overflow_sub-result-then-works-counts c = omega (arith, (whole_some c.in_ok-end.ensures).1)
 
 pub returns-then-works-counts-clause-answer : goal.returns-then-works-counts-clause-answer
 returns-then-works-counts-clause-answer c =
