@@ -30,6 +30,7 @@ impl Names for FileNames<'_> {
         }
     }
 
+    #[tactic(auto, using(crate::proofs::Rows::item_in_found))]
     fn item(&self, number: usize) -> &[u8] {
         match row_of(self.items, number) {
             Some(row) => row.name.in_text(self.bytes),

@@ -13,25 +13,21 @@ puts_more :
     Puts from at xs mid next →
     Puts mid next ys to end →
     Puts from at (xs ++ ys) to end
-puts_more {from} {xs} {mid} {ys} {to} {at} {next} {end} small p q =
+puts_more {from} {xs} {mid} {ys} {to} {at} {next} small p q =
     let both = length-append xs ys in
     record {
       count = omega (arith, p.count, q.count);
       written = λ room.
-          let first = p.written (omega arith) in
-          let at_end : next ≡ at + length xs = omega (arith, p.count) in
-          let long = wrote_length first in
-          let W : ℕ → Type 0 = λ n. Wrote mid n ys to (n + length ys) in
-          let second = subst W at_end (subst (λ (n : ℕ). Wrote mid next ys to (next + length ys)) at_end (q.written (omega arith))) in
-          let E : ℕ → Type 0 = λ n. Wrote from at (xs ++ ys) to n in
-          let end : (at + length xs) + length ys ≡ at + length (xs ++ ys) = omega arith in
-          subst E end (wrote_more first second);
+          let behind : at + length xs ≡ next = omega (arith, p.count) in
+          let first = subst (λ (n : ℕ). Wrote from at xs mid n) behind (p.written (omega arith)) in
+          let end : next + length ys ≡ at + length (xs ++ ys) = omega arith in
+          subst (λ (n : ℕ). Wrote from at (xs ++ ys) to n) end (wrote_more first (q.written (omega (arith, wrote_length first))));
     }
 
 puts_none : (from : List ℕ) (at : ℕ) → at < 2 ^ 64 → Puts from at [] from at
 puts_none from at small = record {
   count = omega arith;
-  written = λ room. let W : ℕ → Type 0 = λ n. Wrote from at [] from n in subst W (sym (add-zero at)) (wrote_none from at (omega arith));
+  written = λ room. subst (λ (n : ℕ). Wrote from at [] from n) (sym (add-zero at)) (wrote_none from at (omega arith));
 }
 
 pub adds_more : {p q r : Page} {xs ys : List ℕ} → Adds p xs q → Adds q ys r → Adds p (xs ++ ys) r

@@ -6,7 +6,7 @@ ghost use Rattle.page.specs.Puts.{Published};
 use crate::Page;
 use scheme_file::Cause;
 
-/// What can be put into a page. `Display` is no such trait: names can have any bytes, and its promise is for a writing that did not fail.
+/// What can be put into a page. It is not `Display`: names can have any bytes, and `Display` promises something only where no write failed.
 pub trait Text {
     // The bytes of the text.
     ghost shown: { Self → List ℕ };
