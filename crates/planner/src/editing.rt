@@ -93,7 +93,7 @@ impl<T: Tariff, C: Chooser> Planner<T, C> {
         ensures edit { Waived (task_of self.old.scheme) item result (task_of self.new.scheme) }
         ensures effect { Does T.Tariff.scale C.Chooser.room C.Chooser.kept self.old (to_waive item) self.new }
     {
-        // Read for its contract: no set has an item above 63.
+        // Read for its contract: that no set has an item above 63 is known only of a set that is read.
         let _wanted = self.scheme.wanted();
         self.scheme.waive(item)?;
         self.chooser.clear();

@@ -1,14 +1,11 @@
 -- One run or two, as the code makes them.
-use Rattle.std.proofs.Common.{◌≡◌, ℕ, ◌+◌, true, false, ◌⊎◌, List, [], ◌∷◌, length, is_some, Some, None, Option, refl, ap, subst, ⊎_elim, arith}
+use Rattle.std.proofs.Common.{◌≡◌, ℕ, ◌+◌, true, false, ◌⊎◌, List, [], length, is_some, Some, None, Option, ap, subst, ⊎_elim}
+use Rattle.std.proofs.lemmas.List.{nil_from_length}
 use Rattle.sets.specs.declared.Set.{Set}
 use Rattle.scheme.specs.Task.{Task}
 use Rattle.tariff.specs.Amounts.{Scale}
 use Rattle.rules.specs.Rules.{at_once, from_none, anew}
 use Rattle.rounds.specs.Steps.{Runs, Settles}
-
-none_kept : (kept : List Set) → length kept ≡ 0 → kept ≡ []
-none_kept [] e = refl
-none_kept (l ∷ kept) e = absurd (omega arith)
 
 module _ {V : Type 0} (t : Scale V) (capacity : ℕ) (k : Task) (prices : List V) (bars : Set) (kept : List Set) where
   -- a run that found a set, or began from none, is all
@@ -19,7 +16,7 @@ module _ {V : Type 0} (t : Scale V) (capacity : ℕ) (k : Task) (prices : List V
       Settles t capacity k prices bars kept found to n
   settles_first (Some s) to n why run ready = at_once (run ready)
   settles_first None to n why run ready =
-      from_none (⊎_elim (λ (e : false ≡ true). absurd cc) (none_kept kept) why) (run ready)
+      from_none (⊎_elim (λ (e : false ≡ true). absurd cc) (nil_from_length kept) why) (run ready)
 
   -- one that spent the capacity over kept landmarks is followed by one from none
   pub settles_anew :
