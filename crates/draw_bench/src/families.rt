@@ -5,13 +5,29 @@ use sets::Set;
 use std::fmt;
 use tabler::Tabler;
 
+/// Whether all works of a family have one price.
+#[derive(Clone, Copy)]
+pub enum Prices {
+    Equal,
+    Varied,
+}
+
 /// Some sets with some members each (fewer where a member repeats) of some works, at equal or at varied prices.
 #[derive(Clone, Copy)]
 pub struct Family {
     pub works: u8,
     pub sets: u8,
     pub members: u8,
-    pub equal: bool,
+    pub prices: Prices,
+}
+
+impl fmt::Display for Prices {
+    fn fmt<W: fmt::Write>(&self, f: &mut fmt::Formatter<W>) -> fmt::Result {
+        f.write_str(match self {
+            Prices::Equal => "equal prices",
+            Prices::Varied => "varied prices",
+        })
+    }
 }
 
 impl fmt::Display for Family {
@@ -19,11 +35,8 @@ impl fmt::Display for Family {
         let sets = self.sets;
         let members = self.members;
         let works = self.works;
-        let prices = if self.equal { "equal" } else { "varied" };
-        write!(
-            f,
-            "{sets} sets of {members} of {works} works, {prices} prices"
-        )
+        let prices = self.prices;
+        write!(f, "{sets} sets of {members} of {works} works, {prices}")
     }
 }
 
@@ -32,49 +45,49 @@ pub const FAMILIES: [Family; 8] = [
         works: 16,
         sets: 8,
         members: 3,
-        equal: false,
+        prices: Prices::Varied,
     },
     Family {
         works: 30,
         sets: 12,
         members: 4,
-        equal: false,
+        prices: Prices::Varied,
     },
     Family {
         works: 64,
         sets: 12,
         members: 6,
-        equal: false,
+        prices: Prices::Varied,
     },
     Family {
         works: 64,
         sets: 12,
         members: 6,
-        equal: true,
+        prices: Prices::Equal,
     },
     Family {
         works: 64,
         sets: 32,
         members: 5,
-        equal: false,
+        prices: Prices::Varied,
     },
     Family {
         works: 64,
         sets: 64,
         members: 3,
-        equal: false,
+        prices: Prices::Varied,
     },
     Family {
         works: 64,
         sets: 64,
         members: 8,
-        equal: false,
+        prices: Prices::Varied,
     },
     Family {
         works: 64,
         sets: 64,
         members: 5,
-        equal: true,
+        prices: Prices::Equal,
     },
 ];
 
@@ -96,7 +109,10 @@ pub fn fill(
     let mut state = seed.wrapping_mul(0x9e37_79b9_7f4a_7c15) | 1;
     for price in prices.iter_mut() {
         state = next(state);
-        *price = if family.equal { 1 } else { 1 + state % 65_535 };
+        *price = match family.prices {
+            Prices::Equal => 1,
+            Prices::Varied => 1 + state % 65_535,
+        };
     }
     searcher.clear();
     tabler.clear();

@@ -4,7 +4,7 @@
 
 mod families;
 
-use chooser::Chooser;
+use chooser::{Chooser, Terms};
 use families::{FAMILIES, Family, fill};
 use searcher::Searcher;
 use sets::Set;
@@ -17,7 +17,7 @@ use tariff::pounds::Pounds;
 const INSTANCES: u64 = 5;
 
 /// The sum and the largest of some numbers.
-#[derive(Clone, Copy)]
+#[derive(Clone, Copy, Default)]
 struct Tally {
     sum: u64,
     largest: u64,
@@ -30,53 +30,78 @@ impl Tally {
             largest: self.largest.max(n),
         }
     }
+
+    /// The average over the instances.
+    fn average(self) -> u64 {
+        self.sum / INSTANCES
+    }
 }
 
-const NONE: Tally = Tally { sum: 0, largest: 0 };
+/// How long draws take with each chooser, in microseconds.
+#[derive(Clone, Copy, Default)]
+struct Times {
+    searching: Tally,
+    tabling: Tally,
+}
 
 /// How long a draw takes, in microseconds.
-fn time<C: Chooser>(rt: &HostRuntime, chooser: &C, prices: &[u64]) -> anyhow::Result<u64> {
+fn time<C: Chooser>(
+    rt: &HostRuntime,
+    chooser: &C,
+    terms: &Terms<'_, Pounds>,
+) -> anyhow::Result<u64> {
     let start = Instant::now(rt)?;
-    let _ = chooser.draw::<Pounds>(prices, Set::empty());
+    let _ = chooser.draw(terms);
     let taken = start.elapsed(rt)?;
     Ok(u64::try_from(taken.as_micros()).unwrap_or(u64::MAX))
 }
 
-fn run(rt: &HostRuntime, family: Family, timed: bool) -> anyhow::Result<()> {
+/// Draws on each instance of a family, and adds to the times if they are asked for.
+fn run(rt: &HostRuntime, family: Family, mut times: Option<Times>) -> anyhow::Result<()> {
     let heap = rt.alloc();
     let mut searcher = Searcher::new(heap)?;
     let mut tabler = Tabler::new(heap)?;
-    let mut nodes = NONE;
-    let mut searching = NONE;
-    let mut tabling = NONE;
+    let mut nodes = Tally::default();
     for seed in 1..=INSTANCES {
         let mut prices = [0u64; 64];
         fill(family, seed, &mut prices, &mut searcher, &mut tabler);
-        nodes = nodes.with(searcher.nodes::<Pounds>(&prices, Set::empty()));
-        if timed {
-            searching = searching.with(time(rt, &searcher, &prices)?);
-            tabling = tabling.with(time(rt, &tabler, &prices)?);
+        let terms = Terms {
+            prices: &prices,
+            bars: Set::empty(),
+        };
+        nodes = nodes.with(searcher.nodes::<Pounds>(&terms));
+        if let Some(so_far) = times {
+            times = Some(Times {
+                searching: so_far.searching.with(time(rt, &searcher, &terms)?),
+                tabling: so_far.tabling.with(time(rt, &tabler, &terms)?),
+            });
         }
     }
-    let average = nodes.sum / INSTANCES;
+    let average = nodes.average();
     let largest = nodes.largest;
     print!(rt; "{family}: nodes {average}, largest {largest}")?;
-    if timed {
-        let us = searching.sum / INSTANCES;
-        print!(rt; "; searcher {us} us")?;
-    }
-    if timed && family.sets <= 12 {
-        let us = tabling.sum / INSTANCES;
-        print!(rt; "; tabler {us} us")?;
+    if let Some(times) = times {
+        tell(rt, family, times)?;
     }
     println!(rt; "")?;
     Ok(())
 }
 
+/// Prints the average times; the tabler keeps twelve sets.
+fn tell(rt: &HostRuntime, family: Family, times: Times) -> anyhow::Result<()> {
+    let us = times.searching.average();
+    print!(rt; "; searcher {us} us")?;
+    if family.sets as usize <= Tabler::LIMIT {
+        let us = times.tabling.average();
+        print!(rt; "; tabler {us} us")?;
+    }
+    Ok(())
+}
+
 fn main(rt: HostRuntime) -> anyhow::Result<()> {
-    let timed = env::args(&rt)?.count() > 1;
+    let times = (env::args(&rt)?.count() > 1).then_some(Times::default());
     for family in FAMILIES {
-        run(&rt, family, timed)?;
+        run(&rt, family, times)?;
     }
     Ok(())
 }

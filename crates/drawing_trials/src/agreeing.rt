@@ -2,7 +2,7 @@
 use crate::cases::Case;
 use crate::numbers::Numbers;
 use crate::trying::least_by_trial;
-use chooser::Chooser;
+use chooser::{Chooser, Terms};
 use searcher::Searcher;
 use sets::Set;
 use std::alloc::{AllocError, Global};
@@ -10,8 +10,6 @@ use std::process::Abort;
 use std::test::Fail;
 use tabler::Tabler;
 use tariff::Tariff;
-use tariff::hours_first::HoursFirst;
-use tariff::pounds::Pounds;
 
 /// Has a chooser keep some sets in place of those that it kept.
 fn refill<C: Chooser>(rt: &impl Abort, chooser: &mut C, kept: &[Set]) {
@@ -40,66 +38,40 @@ impl Choosers {
         refill(rt, &mut self.tabler, kept);
     }
 
-    /// Checks that both draw the least set of a small case. A failure names the tariff, the seed and the round.
+    /// Checks that both draw the least set of a small case. A failure names the case.
     fn draw_least<T: Tariff>(
         &self,
         rt: &impl Abort,
-        prices: &[T::Value],
+        terms: &Terms<'_, T>,
         case: &Case,
-        tariff: &str,
-        seed: u64,
-        round: u64,
+        name: &str,
     ) {
-        let bars = case.bars;
-        let answer = least_by_trial::<T>(prices, bars, case.kept.as_slice(), case.works);
-        let drawn = self.searcher.draw::<T>(prices, bars);
-        assert_eq!(rt;
-            drawn,
-            answer,
-            "{tariff}, seed {seed}, round {round}: searcher"
-        );
-        let drawn = self.tabler.draw::<T>(prices, bars);
-        assert_eq!(rt;
-            drawn,
-            answer,
-            "{tariff}, seed {seed}, round {round}: tabler"
-        );
+        let answer = least_by_trial(terms, case.kept.as_slice(), case.works);
+        assert_eq!(rt; self.searcher.draw(terms), answer, "{name}: searcher");
+        assert_eq!(rt; self.tabler.draw(terms), answer, "{name}: tabler");
     }
 
-    /// Checks that both draw the same set. A failure names the tariff, the seed and whether the prices are equal.
-    fn draw_alike<T: Tariff>(
-        &self,
-        rt: &impl Abort,
-        prices: &[T::Value],
-        case: &Case,
-        tariff: &str,
-        seed: u64,
-        equal: bool,
-    ) {
-        let answer = self.searcher.draw::<T>(prices, case.bars);
-        let drawn = self.tabler.draw::<T>(prices, case.bars);
-        assert_eq!(rt;
-            drawn,
-            answer,
-            "{tariff}, seed {seed}, equal prices: {equal}"
-        );
+    /// Checks that both draw the same set. A failure names the case.
+    fn draw_alike<T: Tariff>(&self, rt: &impl Abort, terms: &Terms<'_, T>, name: &str) {
+        assert_eq!(rt; self.tabler.draw(terms), self.searcher.draw(terms), "{name}");
     }
 }
 
 #[test]
 fn as_a_trial_of_every_set(rt: HostRuntime) -> Result<(), Fail> {
-    let mut choosers = Choosers::new(rt.alloc())?;
+    let heap = rt.alloc();
+    let mut choosers = Choosers::new(heap)?;
     let mut drawn = 0u64;
     for seed in 1..=40u64 {
         let mut numbers = Numbers::new(seed);
         for round in 1..=50u64 {
-            let case = Case::small(rt.alloc(), &mut numbers)?;
+            let case = Case::small(heap, &mut numbers)?;
             choosers.keep(&rt, case.kept.as_slice());
-            let pounds = case.pounds.as_slice();
-            let hours = case.hours.as_slice();
-            choosers.draw_least::<Pounds>(&rt, pounds, &case, "pounds", seed, round);
-            choosers.draw_least::<HoursFirst>(&rt, hours, &case, "hours first", seed, round);
-            let answer = choosers.tabler.draw::<Pounds>(pounds, case.bars);
+            let name = format!(in heap; "pounds, seed {seed}, round {round}")?;
+            choosers.draw_least(&rt, &case.in_pounds(), &case, name.as_str());
+            let name = format!(in heap; "hours first, seed {seed}, round {round}")?;
+            choosers.draw_least(&rt, &case.by_hours(), &case, name.as_str());
+            let answer = choosers.tabler.draw(&case.in_pounds());
             drawn = drawn.saturating_add(u64::from(answer.is_some()));
         }
     }
@@ -112,16 +84,17 @@ fn as_a_trial_of_every_set(rt: HostRuntime) -> Result<(), Fail> {
 
 #[test]
 fn on_64_works(rt: HostRuntime) -> Result<(), Fail> {
-    let mut choosers = Choosers::new(rt.alloc())?;
+    let heap = rt.alloc();
+    let mut choosers = Choosers::new(heap)?;
     for seed in 1..=40u64 {
         let mut numbers = Numbers::new(seed);
         for equal in [false, true] {
-            let case = Case::wide(rt.alloc(), &mut numbers, equal)?;
+            let case = Case::wide(heap, &mut numbers, equal)?;
             choosers.keep(&rt, case.kept.as_slice());
-            let pounds = case.pounds.as_slice();
-            let hours = case.hours.as_slice();
-            choosers.draw_alike::<Pounds>(&rt, pounds, &case, "pounds", seed, equal);
-            choosers.draw_alike::<HoursFirst>(&rt, hours, &case, "hours first", seed, equal);
+            let name = format!(in heap; "pounds, seed {seed}, equal prices: {equal}")?;
+            choosers.draw_alike(&rt, &case.in_pounds(), name.as_str());
+            let name = format!(in heap; "hours first, seed {seed}, equal prices: {equal}")?;
+            choosers.draw_alike(&rt, &case.by_hours(), name.as_str());
         }
     }
     Ok(())

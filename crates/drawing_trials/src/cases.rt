@@ -1,8 +1,10 @@
 //! Random cases of a draw.
 use crate::numbers::Numbers;
+use chooser::Terms;
 use sets::Set;
 use std::alloc::{AllocError, Global};
-use tariff::hours_first::HoursAndPounds;
+use tariff::hours_first::{HoursAndPounds, HoursFirst};
+use tariff::pounds::Pounds;
 
 /// What is kept and barred, and prices under each tariff.
 #[derive(Drop)]
@@ -77,6 +79,22 @@ impl Case {
             bars,
             pounds: Vec::new(heap),
             hours: Vec::new(heap),
+        }
+    }
+
+    /// The prices in pounds, and the bars.
+    pub fn in_pounds(&self) -> Terms<'_, Pounds> {
+        Terms {
+            prices: self.pounds.as_slice(),
+            bars: self.bars,
+        }
+    }
+
+    /// The prices by hours first, and the bars.
+    pub fn by_hours(&self) -> Terms<'_, HoursFirst> {
+        Terms {
+            prices: self.hours.as_slice(),
+            bars: self.bars,
         }
     }
 

@@ -1,3 +1,3 @@
 mod Entries
-mod Lines
+mod Members
 mod Rows

@@ -1,5 +1,6 @@
 -- The record that is printed of a scheme.
 use Rattle.std.specs.Prelude.{◌≡◌, ℕ, ◌<◌, Bool, true, false, List, [], ◌∷◌, ◌++◌, length, codes, decimal}
+use Rattle.std.specs.List.{flat_map}
 use Rattle.sets.specs.declared.Set.{Set}
 use Rattle.sets.specs.Member.{Has, Members}
 use Rattle.sets.specs.Listed.{members, has_bit}
@@ -27,8 +28,7 @@ reach_text false = codes "out of reach"
 
 -- a line for each of some numbers
 abbrev pub lines : (ℕ → List ℕ) → List ℕ → List ℕ
-lines line [] = []
-lines line (n ∷ ns) = line n ++ lines line ns
+lines line ns = flat_map line ns
 
 -- The text: the works of an order, the items standing at the end of the chosen works, and the wanted items.
 pub record Printed (k : Task) (works items : ℕ → List ℕ) (chosen : Set) (order text : List ℕ) : Type 0 where

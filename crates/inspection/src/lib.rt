@@ -6,7 +6,8 @@ mod names;
 mod records;
 mod sample;
 
-pub use files::{FileNames, INPUT, inspect_file};
+pub use files::{FileNames, inspect_file};
 pub use names::Names;
 pub use records::record;
 pub use sample::{Failure, SampleNames, junction};
+pub use scheme_file::INPUT;

@@ -1,7 +1,8 @@
 //! The names of works and items.
 ghost use Rattle.std.specs.Prelude.{◌≡◌, ℕ, List};
 
-/// What names the works and items of a scheme, in bytes; a name is empty where there is none.
+/// What names the works and items of a scheme, in bytes; a name is empty where there is none. An `Option` would be no plainer: nothing is
+/// printed of an empty name, nor of none.
 pub trait Names {
     ghost works: { Self → ℕ → List ℕ };
 

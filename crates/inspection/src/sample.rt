@@ -1,5 +1,6 @@
 //! The sample junction: seven works that give buses priority at a junction.
-ghost use Rattle.std.specs.Prelude.{◌≡◌, IfOk, OnOk};
+ghost use Rattle.std.specs.Prelude.{◌≡◌, ℕ, List, [], map, slice_index_or, IfOk, OnOk};
+ghost use Rattle.std.specs.Borrow.{Bor};
 ghost use Rattle.scheme.specs.Task.{task_of};
 ghost use Rattle.inspection.specs.Sample.{sample, work_name, item_name, Holds};
 
@@ -18,29 +19,37 @@ impl Names for SampleNames {
     ghost items = { λ _ i. item_name i };
 
     fn work(&self, number: usize) -> &[u8] {
-        match number {
-            0 => b"Trench",
-            1 => b"Duct",
-            2 => b"Supply",
-            3 => b"Controller",
-            4 => b"Loops",
-            5 => b"Radar",
-            6 => b"Priority",
-            _ => b"",
-        }
+        named(&WORK_NAMES, number)
     }
 
     fn item(&self, number: usize) -> &[u8] {
-        match number {
-            0 => b"Duct",
-            1 => b"Supply",
-            2 => b"Controller",
-            3 => b"Detection",
-            4 => b"Priority",
-            _ => b"",
-        }
+        named(&ITEM_NAMES, number)
     }
 }
+
+/// The name at a place of a list; empty past its end.
+fn named(names: &[&'static [u8]], number: usize) -> &'static [u8]
+    ensures { result.now ≡ slice_index_or (map (λ (n : Bor (List ℕ)). n.now) names.now) number [] }
+{
+    let Some(name) = names.get(number) else {
+        return b"";
+    };
+    *name
+}
+
+/// The names of the works.
+const WORK_NAMES: [&[u8]; 7] = [
+    b"Trench",
+    b"Duct",
+    b"Supply",
+    b"Controller",
+    b"Loops",
+    b"Radar",
+    b"Priority",
+];
+
+/// The names of the items.
+const ITEM_NAMES: [&[u8]; 5] = [b"Duct", b"Supply", b"Controller", b"Detection", b"Priority"];
 
 /// The needs and gives of the works, as the numbers of the sets.
 const WORKS: [(u64, u64); 7] = [(0, 3), (0, 1), (0, 2), (3, 4), (1, 8), (4, 8), (12, 16)];
@@ -75,6 +84,7 @@ pub fn junction(heap: Global) -> Result<Scheme, Failure>
 }
 
 /// Enters works, each given by the numbers of its needs and gives.
+#[tactic(auto, using(crate::proofs::Entries::holds_none, crate::proofs::Entries::holds_more))]
 fn enter_all(scheme: &mut Scheme, works: &[(u64, u64)]) -> Result<(), Refusal>
     ensures { OnOk result (Holds (task_of scheme.old) works.now (task_of scheme.new)) }
 {

@@ -1,11 +1,11 @@
 //! Texts put into a lent page of bytes.
 //!
-//! - `putting`: bytes and decimal numbers put at an offset, and counted where the page is too short for them.
+//! - `pages`: a page, into which bytes and decimal numbers are put one after another, and counted where it is too short for them.
 //! - `texts`: what can be put, and a whole text put from the start, or refused.
 #![tactic(auto)]
 
-mod putting;
+mod pages;
 mod texts;
 
-pub use putting::{put_bytes, put_number};
+pub use pages::Page;
 pub use texts::{Text, publish};

@@ -1,5 +1,6 @@
 //! Questions on the sample junction.
 use crate::sample::*;
+use chooser::Terms;
 use planner::Planner;
 use searcher::Searcher;
 use sets::Set;
@@ -13,12 +14,12 @@ const KEPT: [u64; 5] = [64, 48, 8, 5, 3];
 #[test]
 fn one_question_after_another(rt: HostRuntime) -> Result<(), Fail> {
     let mut planner = junction(&rt, rt.alloc())?;
-    expect(&rt, &mut planner, &POUNDS, 0, &[1, 2, 3, 5, 6], 1850, 6)?;
+    expect(&rt, &mut planner, terms(&POUNDS, 0), &[1, 2, 3, 5, 6], 1850, 6)?;
     expect_kept(&rt, &planner, &KEPT)?;
-    expect(&rt, &mut planner, &POUNDS, 0, &[1, 2, 3, 5, 6], 1850, 1)?;
-    expect(&rt, &mut planner, &POUNDS, 32, &[1, 2, 3, 4, 6], 2100, 1)?;
-    expect(&rt, &mut planner, &POUNDS, 2, &[0, 3, 5, 6], 1950, 1)?;
-    refused(&rt, &mut planner, &POUNDS, 64, 7, 9)?;
+    expect(&rt, &mut planner, terms(&POUNDS, 0), &[1, 2, 3, 5, 6], 1850, 1)?;
+    expect(&rt, &mut planner, terms(&POUNDS, 32), &[1, 2, 3, 4, 6], 2100, 1)?;
+    expect(&rt, &mut planner, terms(&POUNDS, 2), &[0, 3, 5, 6], 1950, 1)?;
+    unanswered(&rt, &mut planner, terms(&POUNDS, 64), 7, 9)?;
     expect_kept(&rt, &planner, &KEPT)
 }
 
@@ -28,7 +29,11 @@ fn expect_by_hours(
     planner: &mut Planner<HoursFirst, Searcher>,
 ) -> Result<(), Fail> {
     let mut places = [99u8; 7];
-    let answer = planner.ask(&hours_and_pounds(), Set::empty(), &mut places)?;
+    let terms = Terms {
+        prices: &hours_and_pounds(),
+        bars: Set::empty(),
+    };
+    let answer = planner.ask(&terms, &mut places)?;
     assert_eq!(rt; answer.length, 4);
     assert_eq!(rt; answer.total.hours, 12);
     assert_eq!(rt; answer.total.pounds, 1950);
@@ -48,9 +53,9 @@ fn hours_first(rt: HostRuntime) -> Result<(), Fail> {
 #[test]
 fn nothing_wanted(rt: HostRuntime) -> Result<(), Fail> {
     let mut planner = opened(rt.alloc())?;
-    expect(&rt, &mut planner, &[], 0, &[], 0, 1)?;
+    expect(&rt, &mut planner, terms(&[], 0), &[], 0, 1)?;
     enter_works(&mut planner)?;
-    expect(&rt, &mut planner, &POUNDS, 0, &[], 0, 1)
+    expect(&rt, &mut planner, terms(&POUNDS, 0), &[], 0, 1)
 }
 
 /// Makes item 4 stand.
@@ -62,10 +67,10 @@ fn stand(rt: &impl Abort, planner: &mut Planner<Pounds, Searcher>) -> Result<(),
 #[test]
 fn an_item_that_stands(rt: HostRuntime) -> Result<(), Fail> {
     let mut planner = junction(&rt, rt.alloc())?;
-    expect(&rt, &mut planner, &POUNDS, 0, &[1, 2, 3, 5, 6], 1850, 6)?;
+    expect(&rt, &mut planner, terms(&POUNDS, 0), &[1, 2, 3, 5, 6], 1850, 6)?;
     stand(&rt, &mut planner)?;
     expect_kept(&rt, &planner, &[])?;
-    expect(&rt, &mut planner, &POUNDS, 0, &[], 0, 1)
+    expect(&rt, &mut planner, terms(&POUNDS, 0), &[], 0, 1)
 }
 
 /// Calls that are refused, or add nothing.
@@ -81,7 +86,7 @@ fn idle_calls(rt: &impl Abort, planner: &mut Planner<Pounds, Searcher>) -> Resul
 #[test]
 fn what_keeps_the_landmarks(rt: HostRuntime) -> Result<(), Fail> {
     let mut planner = junction(&rt, rt.alloc())?;
-    expect(&rt, &mut planner, &POUNDS, 0, &[1, 2, 3, 5, 6], 1850, 6)?;
+    expect(&rt, &mut planner, terms(&POUNDS, 0), &[1, 2, 3, 5, 6], 1850, 6)?;
     idle_calls(&rt, &mut planner)?;
     want(&rt, &mut planner, 3)?;
     expect_kept(&rt, &planner, &KEPT)?;

@@ -1,6 +1,6 @@
 //! Lists of calls, and two planners asked alike.
 use crate::sample::*;
-use planner::{Planner, Request, ask_both};
+use planner::{Answer, Planner, Request, ask_both};
 use searcher::Searcher;
 use sets::Set;
 use std::process::Abort;
@@ -23,13 +23,11 @@ fn a_list_of_calls(rt: HostRuntime) -> Result<(), Fail> {
         },
         Request::Want { item: 0 },
         Request::Ask {
-            prices: &[3],
-            bars: none,
+            terms: terms(&[3], 0),
             places: 1,
         },
         Request::Mark {
-            prices: &[3],
-            bars: none,
+            terms: terms(&[3], 0),
             paper: &[0],
         },
         Request::Amend {
@@ -42,10 +40,15 @@ fn a_list_of_calls(rt: HostRuntime) -> Result<(), Fail> {
         Request::Waive { item: 5 },
     ];
     let mut places = [99u8; 2];
-    let answer = planner.conduct(&requests, &[3], none, &mut places)?;
-    assert_eq!(rt; answer.length, 1);
-    assert_eq!(rt; answer.total, 3);
-    assert_eq!(rt; answer.rounds, 2);
+    let answer = planner.conduct(&requests, &terms(&[3], 0), &mut places)?;
+    assert_eq!(rt;
+        answer,
+        Answer {
+            length: 1,
+            total: 3,
+            rounds: 2,
+        }
+    );
     assert_eq!(rt; places, [0, 99]);
     Ok(())
 }
@@ -55,11 +58,11 @@ fn agree(
     rt: &impl Abort,
     one: &mut Planner<Pounds, Searcher>,
     other: &mut Planner<Pounds, Tabler>,
-    bars: Set,
+    bars: u64,
 ) -> Result<(), Fail> {
     let mut first = [99u8; 7];
     let mut second = [99u8; 7];
-    let (a, b) = ask_both(one, other, &POUNDS, bars, &mut first, &mut second);
+    let (a, b) = ask_both(one, other, &terms(&POUNDS, bars), &mut first, &mut second);
     assert_eq!(rt; a?.total, b?.total);
     assert_eq!(rt; first, second);
     Ok(())
@@ -72,7 +75,7 @@ fn two_choosers(rt: HostRuntime) -> Result<(), Fail> {
     let mut other = Planner::with_room(Pounds, Tabler::new(heap)?, heap)?;
     enter_works(&mut other)?;
     want(&rt, &mut other, 4)?;
-    agree(&rt, &mut one, &mut other, Set::empty())?;
-    agree(&rt, &mut one, &mut other, Set::only(5))?;
-    agree(&rt, &mut one, &mut other, Set::only(1))
+    agree(&rt, &mut one, &mut other, 0)?;
+    agree(&rt, &mut one, &mut other, 32)?;
+    agree(&rt, &mut one, &mut other, 2)
 }

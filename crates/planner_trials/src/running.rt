@@ -3,6 +3,7 @@ use crate::sample::*;
 use chooser::Chooser;
 use planner::Planner;
 use searcher::Searcher;
+use sets::Set;
 use std::process::Abort;
 use std::test::Fail;
 use tabler::Tabler;
@@ -21,11 +22,9 @@ fn enter_apart<C: Chooser>(
     planner: &mut Planner<Pounds, C>,
     items: &[u8],
 ) -> Result<(), Fail> {
-    let mut gives = 1u64;
     for item in items {
-        enter(planner, gives)?;
+        enter(planner, Set::only(*item as usize).bits())?;
         want(rt, planner, *item)?;
-        gives = gives.wrapping_mul(2);
     }
     Ok(())
 }
@@ -35,10 +34,10 @@ fn one_more_landmark_than_the_capacity(rt: HostRuntime) -> Result<(), Fail> {
     let heap = rt.alloc();
     let mut planner = Planner::with_room(Pounds, Tabler::new(heap)?, heap)?;
     enter_apart(&rt, &mut planner, &NUMBERS[0..12])?;
-    expect(&rt, &mut planner, &[1; 12], 0, &NUMBERS[0..12], 12, 13)?;
+    expect(&rt, &mut planner, terms(&[1; 12], 0), &NUMBERS[0..12], 12, 13)?;
     enter(&mut planner, 4096)?;
     want(&rt, &mut planner, 12)?;
-    refused(&rt, &mut planner, &[1; 13], 0, 13, 10)?;
+    unanswered(&rt, &mut planner, terms(&[1; 13], 0), 13, 10)?;
     expect_kept(&rt, &planner, &SINGLES)
 }
 
@@ -46,7 +45,7 @@ fn one_more_landmark_than_the_capacity(rt: HostRuntime) -> Result<(), Fail> {
 fn room_for_it(rt: HostRuntime) -> Result<(), Fail> {
     let mut planner = opened(rt.alloc())?;
     enter_apart(&rt, &mut planner, &NUMBERS)?;
-    expect(&rt, &mut planner, &[1; 13], 0, &NUMBERS, 13, 14)
+    expect(&rt, &mut planner, terms(&[1; 13], 0), &NUMBERS, 13, 14)
 }
 
 /// The last work gives items 1 to 12. It is needed once item 12 is wanted, and then most kept landmarks tell nothing.
@@ -56,8 +55,8 @@ fn a_run_that_starts_again(rt: HostRuntime) -> Result<(), Fail> {
     let mut planner = Planner::with_room(Pounds, Tabler::new(heap)?, heap)?;
     enter_apart(&rt, &mut planner, &NUMBERS[0..12])?;
     enter(&mut planner, 8190)?;
-    expect(&rt, &mut planner, &LAST_DEAR, 0, &NUMBERS[0..12], 12, 13)?;
+    expect(&rt, &mut planner, terms(&LAST_DEAR, 0), &NUMBERS[0..12], 12, 13)?;
     want(&rt, &mut planner, 12)?;
-    expect(&rt, &mut planner, &LAST_DEAR, 0, &[0, 12], 101, 4)?;
+    expect(&rt, &mut planner, terms(&LAST_DEAR, 0), &[0, 12], 101, 4)?;
     expect_kept(&rt, &planner, &[4096, 1])
 }

@@ -1,6 +1,7 @@
 //! The sample junction, and what a question about it is held to.
-use chooser::Chooser;
-use planner::Planner;
+use chooser::{Chooser, Terms};
+use planner::{Answer, Planner};
+use scheme::Refusal;
 use searcher::Searcher;
 use sets::Set;
 use std::alloc::Global;
@@ -19,17 +20,22 @@ const HOURS: [u64; 7] = [10, 6, 6, 2, 8, 0, 0];
 
 /// Hours and pounds of the works.
 pub fn hours_and_pounds() -> [HoursAndPounds; 7] {
-    let mut prices = [HoursAndPounds {
-        hours: 0,
-        pounds: 0,
-    }; 7];
-    for w in 0..7 {
-        prices[w] = HoursAndPounds {
-            hours: HOURS[w],
-            pounds: POUNDS[w],
+    let mut prices = [HoursAndPounds::default(); 7];
+    for (price, (hours, pounds)) in prices.iter_mut().zip(HOURS.iter().zip(&POUNDS)) {
+        *price = HoursAndPounds {
+            hours: *hours,
+            pounds: *pounds,
         };
     }
     prices
+}
+
+/// Prices in pounds, and the bars by the number of their set.
+pub fn terms(prices: &[u64], bars: u64) -> Terms<'_, Pounds> {
+    Terms {
+        prices,
+        bars: Set::from_bits(bars),
+    }
 }
 
 /// Enters the works of the sample junction; nothing is wanted yet.
@@ -69,59 +75,61 @@ pub fn enter<T: Tariff, C: Chooser>(planner: &mut Planner<T, C>, gives: u64) -> 
     Ok(())
 }
 
-/// Asks in pounds and checks the order, the total and the rounds. The bars are given as the number of their set.
+/// Asks in pounds and checks the order, the total and the rounds.
 pub fn expect<C: Chooser>(
     rt: &impl Abort,
     planner: &mut Planner<Pounds, C>,
-    prices: &[u64],
-    bars: u64,
+    terms: Terms<'_, Pounds>,
     order: &[u8],
     total: u64,
     rounds: usize,
 ) -> Result<(), Fail> {
     let mut places = [99u8; 64];
-    let answer = planner.ask(prices, Set::from_bits(bars), &mut places)?;
-    assert_eq!(rt; answer.length, order.len());
-    assert_eq!(rt; answer.total, total);
-    assert_eq!(rt; answer.rounds, rounds);
+    let answer = Answer {
+        length: order.len(),
+        total,
+        rounds,
+    };
+    assert_eq!(rt; planner.ask(&terms, &mut places)?, answer);
     expect_front(rt, &places, order);
     Ok(())
 }
 
 /// Checks that the first places hold an order, and that later places stayed as they were.
 pub fn expect_front(rt: &impl Abort, places: &[u8], order: &[u8]) {
-    for (place, number) in places.iter().enumerate() {
-        assert_eq!(rt; *number, order.get(place).copied().unwrap_or(99));
+    let (front, later) = places.split_at(order.len().min(places.len()));
+    assert_eq!(rt; front, order);
+    assert!(rt; later.iter().all(|number| *number == 99));
+}
+
+/// Checks that a call was refused, by the refusal's number.
+pub fn refused<V: Drop>(
+    rt: &impl Abort,
+    result: Result<V, Refusal>,
+    number: u8,
+) -> Result<(), Fail> {
+    match result {
+        Ok(_) => Err(Fail::new("not refused")),
+        // By number: the numbers are what is tried here.
+        Err(refusal) => {
+            assert_eq!(rt; refusal.number(), number);
+            Ok(())
+        }
     }
 }
 
 /// Asks in pounds with a list of some places, and checks the refusal's number and that the list stays.
-pub fn refused<C: Chooser>(
+pub fn unanswered<C: Chooser>(
     rt: &impl Abort,
     planner: &mut Planner<Pounds, C>,
-    prices: &[u64],
-    bars: u64,
+    terms: Terms<'_, Pounds>,
     places: usize,
     number: u8,
 ) -> Result<(), Fail> {
     let mut list = [99u8; 64];
     let end = places.min(64);
-    refused_with(rt, planner, prices, bars, &mut list[0..end], number)
-}
-
-fn refused_with<C: Chooser>(
-    rt: &impl Abort,
-    planner: &mut Planner<Pounds, C>,
-    prices: &[u64],
-    bars: u64,
-    list: &mut [u8],
-    number: u8,
-) -> Result<(), Fail> {
-    match planner.ask(prices, Set::from_bits(bars), list) {
-        Ok(_) => return Err(Fail::new("answered")),
-        Err(refusal) => assert_eq!(rt; refusal.number(), number),
-    }
-    expect_front(rt, list, &[]);
+    refused(rt, planner.ask(&terms, &mut list[0..end]), number)?;
+    expect_front(rt, &list, &[]);
     Ok(())
 }
 
@@ -134,6 +142,7 @@ pub fn expect_kept<T, C: Chooser>(
     let mut places = [77u64; 80];
     assert_eq!(rt; planner.landmarks(), kept.len());
     assert_eq!(rt; planner.copy_landmarks(&mut places)?, kept.len());
+    // By place: the landmarks are read one by one, and past the last there is none.
     for (place, number) in places.iter().enumerate() {
         let wanted = kept.get(place).copied();
         assert_eq!(rt; *number, wanted.unwrap_or(77));

@@ -17,7 +17,7 @@ use Rattle.rules.specs.Calls.{Valid, filling}
 use Rattle.rules.specs.Promises.{Right}
 use Rattle.rules.specs.Rules.{Asked, Outcome}
 use Rattle.planner.specs.declared.types.Answer.{Answer}
-use Rattle.planner.specs.Asks.{Asks}
+use Rattle.planner.specs.Asks.{Promised}
 use Rattle.planner.specs.Files.{Opens}
 use Rattle.planner.specs.Views.{Says}
 use Rattle.planner.proofs.Opening.{entries_many}
@@ -65,14 +65,15 @@ module _ (bytes : List ℕ) (k : Task) (rows : List WorkRow) (items : List ItemR
         )
 
     pub tells :
-        (capacity : ℕ) (kept : List Set) (from : List ℕ) (r : Result (Answer ℕ) Refusal) (order : List ℕ) (after : Task) (to : List Set) →
+        (capacity : ℕ) (kept : List Set) (bars : Set) (r : Result (Answer ℕ) Refusal) (order : List ℕ) (after : Task) (to : List Set) →
         Opens pounds_scale capacity k kept →
-        length from ≡ 64 →
-        Asks pounds_scale capacity k kept prices none from r order after to →
+        bars ≡ none →
+        after ≡ k →
+        Promised pounds_scale capacity k prices bars 64 kept r order to →
         Answered capacity bytes (printed r order) after to
-    tells capacity kept from r order after to opens long asks =
-        let Places : ℕ → Type 0 = λ n. Valid pounds_scale k prices none n in
-        let comes = asks.promised (filling k) opens.since (subst Places (sym long) valid) in
+    tells capacity kept bars r order after to opens unbarred same promised =
+        let Barred : Set → Type 0 = λ b. Promised pounds_scale capacity k prices b 64 kept r order to in
+        let comes = subst Barred unbarred promised (filling k) opens.since valid in
         let same-pounds = listed ∙ sym (entries_pounds bytes k.works rows level) in
         let Ruled : Task → List ℕ → Type 0 = λ t p. Asked pounds_scale capacity t p none [] comes.outcome to in
         let From : List Set → Type 0 = λ x. Asked pounds_scale capacity k prices none x comes.outcome to in
@@ -81,7 +82,7 @@ module _ (bytes : List ℕ) (k : Task) (rows : List WorkRow) (items : List ItemR
           contents = contents k rows items bytes;
           readable = reads.readable;
           same = reads.same;
-          holds = asks.same ∙ sym same_task;
+          holds = same ∙ sym same_task;
           outcome = comes.outcome;
           ruled = subst₂ Ruled (sym same_task) same-pounds (subst From opens.none_kept comes.ruled);
           right = subst₂ Fits (sym same_task) same-pounds comes.right;

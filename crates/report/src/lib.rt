@@ -2,11 +2,12 @@
 //!
 //! - `reporting`: from a file's bytes to the bytes printed.
 //! - `answers`: the lines of an answer.
-//! - `refusals`: the line of a refusal or a fault.
+//! - `refusals`: the line of a refusal.
 #![tactic(auto)]
 
 mod answers;
 mod refusals;
 mod reporting;
 
-pub use reporting::{INPUT, PAGE, report_cheapest};
+pub use reporting::{PAGE, report_cheapest};
+pub use scheme_file::INPUT;

@@ -1,36 +1,51 @@
-//! The line of a refusal or a fault.
+//! The line of a refusal.
+ghost use Rattle.std.specs.Prelude.{◌≡◌};
 ghost use Rattle.report.specs.Lines.{fault_text, refusal_text};
+ghost use Rattle.report.specs.Refused.{refused_text};
 
-use page::{Text, put_bytes, put_number};
+use page::{Page, Text};
 use scheme::Refusal;
-use scheme_file::Fault;
+use scheme_file::{Cause, Fault};
 
-/// The number of a refusal.
+/// Why there is no answer, and where the file has a fault its offset.
 #[derive(Clone, Copy)]
-pub struct RefusalLine(pub Refusal);
+pub struct RefusalLine {
+    cause: Cause,
+    offset: Option<usize>,
+}
 
-impl Text for RefusalLine {
-    ghost shown = { λ t. refusal_text t.0 };
+impl From<Refusal> for RefusalLine {
+    ghost from_gives = { λ refusal line. refused_text line ≡ refusal_text refusal };
 
-    fn put(&self, page: &mut [u8], at: usize) -> usize {
-        let next = put_bytes(page, at, b"refused ");
-        let next = put_number(page, next, self.0.number() as u64);
-        put_bytes(page, next, b"\n")
+    fn from(refusal: Refusal) -> RefusalLine {
+        RefusalLine {
+            cause: refusal.into(),
+            offset: None,
+        }
     }
 }
 
-/// The number of a fault's cause, and its offset.
-#[derive(Clone, Copy)]
-pub struct FaultLine(pub Fault);
+impl From<Fault> for RefusalLine {
+    ghost from_gives = { λ fault line. refused_text line ≡ fault_text fault };
 
-impl Text for FaultLine {
-    ghost shown = { λ t. fault_text t.0 };
+    fn from(fault: Fault) -> RefusalLine {
+        RefusalLine {
+            cause: fault.cause,
+            offset: Some(fault.offset),
+        }
+    }
+}
 
-    fn put(&self, page: &mut [u8], at: usize) -> usize {
-        let next = put_bytes(page, at, b"refused ");
-        let next = put_number(page, next, self.0.cause.number() as u64);
-        let next = put_bytes(page, next, b" at ");
-        let next = put_number(page, next, self.0.offset as u64);
-        put_bytes(page, next, b"\n")
+impl Text for RefusalLine {
+    ghost shown = { refused_text };
+
+    fn put(&self, page: &mut Page<'_>) {
+        page.put(b"refused ");
+        page.put_number(self.cause.number() as u64);
+        if let Some(offset) = self.offset {
+            page.put(b" at ");
+            page.put_number(offset as u64);
+        }
+        page.put(b"\n");
     }
 }

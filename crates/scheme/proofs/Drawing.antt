@@ -1,16 +1,17 @@
 -- What follows of landmarks, and of how one is drawn.
-use Rattle.std.proofs.Common.{◌≡◌, ℕ, zero, suc, ◌<◌, ◌≤◌, ◌⊎◌, List, length, sym, refl, subst, subst₂, inl, inr, ⊎_elim, arith}
+use Rattle.std.proofs.Common.{◌≡◌, ℕ, zero, suc, ◌<◌, ◌≤◌, ◌⊎◌, List, length, sym, refl, subst, inl, inr, ⊎_elim, arith}
 use native.Mathlib.Decide.{dec_lt}
 use Rattle.sets.specs.declared.Set.{Set}
 use Rattle.sets.specs.Member.{Has, Members, Sub, Meet}
 use Rattle.sets.specs.Listed.{In}
+use Rattle.sets.proofs.Decided.{both_decided, either_decided, not_decided}
 use Rattle.sets.proofs.Laws.{same_set, same_members, has_or_not, none_has, set_of}
+use Rattle.sets.proofs.Parts.{added_if, sub_decided}
 use Rattle.scheme.specs.declared.Work.{Work}
 use Rattle.scheme.specs.Task.{Task, work}
 use Rattle.scheme.specs.Reach.{Reach, Sufficient}
 use Rattle.scheme.specs.Orders.{Carried, finished, onward}
 use Rattle.scheme.specs.Landmarks.{Landmark, Trial, Grown, Drawn, Leaves}
-use Rattle.scheme.proofs.Decided.{added_if, same_decided, below_decided, sub_decided, both_decided, either_decided, not_decided}
 use Rattle.scheme.proofs.Reaches.{reach_unique, reach_exists, sufficient_by_reach, sufficient_grows, sufficient_or_not}
 use Rattle.scheme.proofs.Ordered.{placed_from, placed_plan, placed_exists}
 
@@ -43,10 +44,7 @@ module _ {k : Task} {s g : Set} (h : Grown k s g) (short : Sufficient k (Has s) 
           enough
 
       with_n : Sufficient k (Trial s g n)
-      with_n =
-          sufficient_grows k (Below s g (suc n)) (Trial s g n)
-          (λ w held. ⊎_elim inl (λ p. inr (elim (dec_lt w n) [ yes lt ↦ inl (p.0, lt) | no ge ↦ inr (omega arith) ])))
-          enough
+      with_n = grind (arith, sufficient_grows)
 
   -- an insufficient set stays insufficient when it is grown
   pub grown_insufficient : Sufficient k (Has g) → ⊥
@@ -62,9 +60,7 @@ trial_grows :
     ((v : ℕ) → v < w → Has g v → Has g' v) →
     Sufficient k (Trial s g w) →
     Sufficient k (Trial s g' w)
-trial_grows k s g g' w more =
-    sufficient_grows k (Trial s g w) (Trial s g' w)
-    (λ v held. ⊎_elim inl (λ p. inr (⊎_elim (λ q. inl (more v q.1 q.0, q.1)) inr p)))
+trial_grows k s g g' w more = grind (arith, sufficient_grows)
 
 module _ {k : Task} {s : Set} where
   -- where two grown sets agree below w, a work w of the first is one of the second
@@ -100,8 +96,7 @@ module _ {k : Task} {s : Set} where
 
   -- a set is grown to one set
   pub grown_unique : {g g' : Set} → Grown k s g → Grown k s g' → g ≡ g'
-  grown_unique {g} {g'} h h' =
-      same_set g g' (λ w. (grown_agree h h' (suc w) w (omega arith)).0) (λ w. (grown_agree h h' (suc w) w (omega arith)).1)
+  grown_unique {g} {g'} h h' = grind (arith, same_set, grown_agree)
 
 -- ---- the drawn landmark
 
@@ -162,13 +157,7 @@ pub landmark_stays :
     Sub k.wanted k'.wanted →
     Landmark k l →
     Landmark k' l
-landmark_stays k k' l works standing more mark order plan =
-    mark order (record {
-      unbarred = plan.unbarred;
-      last = plan.last;
-      carried = subst₂ (λ a b. Carried a b order plan.last) (sym works) (sym standing) plan.carried;
-      reached = λ i y. plan.reached i (more i y);
-    })
+landmark_stays k k' l works standing more mark order plan = grind arith
 
 -- ---- the grown set and the landmark that there are
 
@@ -181,9 +170,7 @@ pub record GrownTo (k : Task) (s : Set) (n : ℕ) (g : Set) : Type 0 where
 
 module _ (k : Task) (s : Set) where
   trial_decided : (g : Set) (w v : ℕ) → Trial s g w v ⊎ (Trial s g w v → ⊥)
-  trial_decided g w v =
-      either_decided (has_or_not s v)
-      (either_decided (both_decided (has_or_not g v) (below_decided v w)) (same_decided v w))
+  trial_decided g w v = grind (arith, either_decided, has_or_not, both_decided)
 
   -- one step: n is added where the set stays insufficient with it
   grown_more :

@@ -1,6 +1,6 @@
 pub mod Decided
 pub mod Reaches
-mod Passes
+mod Carryings
 mod Placings
 pub mod Ordered
 pub mod Drawing

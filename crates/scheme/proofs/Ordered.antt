@@ -4,12 +4,13 @@ use native.Mathlib.Decide.{dec_lt, ℕ_discrete}
 use Rattle.sets.specs.declared.Set.{Set}
 use Rattle.sets.specs.Member.{Has, Members, Sub}
 use Rattle.sets.specs.Listed.{In}
+use Rattle.sets.proofs.Decided.{both_decided}
 use Rattle.sets.proofs.Laws.{same_members, has_or_not, proper_lt, lowest_below}
+use Rattle.sets.proofs.Parts.{union_of, sub_decided, less_one}
 use Rattle.scheme.specs.declared.Work.{Work}
 use Rattle.scheme.specs.Task.{Task, work}
 use Rattle.scheme.specs.Reach.{Closed, Reach, Sufficient}
 use Rattle.scheme.specs.Orders.{Carried, finished, onward, Plan, Placed, none_left, placing}
-use Rattle.scheme.proofs.Decided.{union_of, part_of, same_decided, sub_decided, both_decided, not_decided}
 use Rattle.scheme.proofs.Reaches.{reach_of_sufficient}
 
 -- ---- orders that are carried out
@@ -139,14 +140,7 @@ pub placed_plan :
     Sufficient k (Has s) →
     ((w : ℕ) → Has s w → Has bars w → ⊥) →
     Plan k bars order
-placed_plan {k} p enough apart =
-    let c = placed_carried p in
-    record {
-      unbarred = λ w y. apart w (placed_from p w y);
-      last = c.0;
-      carried = c.1;
-      reached = reach_of_sufficient k enough c.2;
-    }
+placed_plan {k} p enough apart = grind (arith, placed_carried, placed_from, reach_of_sufficient)
 
 -- a set has one order
 pub placed_unique :
@@ -187,7 +181,7 @@ placed_exists works left s = place (suc left.bits) left s (omega arith)
         ⊎_elim
         (λ f.
         let w = f.0 in
-        let less = part_of left (λ v. v ≡ w → ⊥) (λ v. not_decided (same_decided v w)) in
+        let less = less_one left w in
         let more = union_of s (work works w).gives in
         let smaller : less.0.bits < left.bits =
         proper_lt less.0 left (λ v y. ((less.1 v).0 y).0) w f.2.0 (λ y. ((less.1 w).0 y).1 refl)

@@ -2,16 +2,16 @@
 use Rattle.std.proofs.Common.{◌≡◌, ℕ, zero, suc, ◌+◌, ◌<◌, ◌⊎◌, List, [], ◌∷◌, length, inl, inr, ⊎_elim, arith}
 use Rattle.sets.specs.declared.Set.{Set}
 use Rattle.sets.specs.Member.{Sub, none}
+use Rattle.sets.proofs.Decided.{both_decided, not_decided}
 use Rattle.sets.proofs.Laws.{same_set, sub_le, lowest_below}
+use Rattle.sets.proofs.Parts.{union_of, union_larger, sub_decided}
 use Rattle.scheme.specs.declared.Work.{Work}
 use Rattle.scheme.specs.Task.{Task, work}
 use Rattle.scheme.specs.Reach.{Closed, Reach, Sufficient}
-use Rattle.scheme.proofs.Decided.{union_of, union_larger, sub_decided, both_decided, not_decided}
 
 -- the chosen works have one reach
 pub reach_unique : (works : List Work) (P : ℕ → Type 0) (s r r' : Set) → Reach works P s r → Reach works P s r' → r ≡ r'
-reach_unique works P s r r' h g =
-    same_set r r' (h.smallest r' g.from g.closed) (g.smallest r h.from h.closed)
+reach_unique works P s r r' h g = grind (arith, same_set)
 
 -- with more works chosen and more items standing, the reach holds at least as much
 pub reach_grows :
@@ -21,8 +21,7 @@ pub reach_grows :
     Reach works P s r →
     Reach works Q s' r' →
     Sub r r'
-reach_grows {r'} more from h g =
-    h.smallest r' (λ i y. g.from i (from i y)) (λ w held p. g.closed w held (more w held p))
+reach_grows {r'} more from h g = grind arith
 
 -- ---- sufficient works
 

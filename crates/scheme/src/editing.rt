@@ -1,7 +1,8 @@
 //! Making and editing a scheme.
-ghost use Rattle.std.specs.Prelude.{◌≡◌, IfOk};
+ghost use Rattle.std.specs.Prelude.{◌≡◌, ◌<◌, ◌≤◌, IfOk, MatchResult};
 ghost use Rattle.scheme.specs.Edits.{opened, Entered, Amended, Added, Stood, Wanted, Waived};
 ghost use Rattle.scheme.specs.Task.{task_of};
+ghost use Rattle.scheme.specs.declared.refusals.Refusal.TheVariants.{ItemTooHigh};
 
 use crate::{Refusal, Scheme, Work};
 use sets::Set;
@@ -80,10 +81,7 @@ impl Scheme {
     pub fn waive(&mut self, item: u8) -> Result<(), Refusal>
         ensures { Waived (task_of self.old) item result (task_of self.new) }
     {
-        let item = item as usize;
-        if item >= Set::LIMIT {
-            return Err(Refusal::ItemTooHigh);
-        }
+        let item = member(item)?;
         if !self.wanted.contains(item) {
             return Err(Refusal::NotWanted);
         }
@@ -96,13 +94,21 @@ impl Scheme {
 fn add(items: &mut Set, item: u8) -> Result<bool, Refusal>
     ensures { Added items.old item result items.new }
 {
-    let item = item as usize;
-    if item >= Set::LIMIT {
-        return Err(Refusal::ItemTooHigh);
-    }
+    let item = member(item)?;
     if items.contains(item) {
         return Ok(false);
     }
     *items = items.with(item);
     Ok(true)
+}
+
+/// An item as a number that can be a member of a set.
+fn member(item: u8) -> Result<usize, Refusal>
+    ensures { MatchResult result (λ i. (i ≡ item) × (i < 64)) (λ e. (e ≡ ItemTooHigh) × (64 ≤ item)) }
+{
+    let item = item as usize;
+    if item >= Set::LIMIT {
+        return Err(Refusal::ItemTooHigh);
+    }
+    Ok(item)
 }

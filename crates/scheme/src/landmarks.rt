@@ -1,10 +1,10 @@
 //! Landmarks: sets of works of which every order that leaves the wanted items standing has one.
-ghost use Rattle.std.specs.Prelude.{◌<◌, ◌≤◌, length};
+ghost use Rattle.std.specs.Prelude.{◌<◌, length};
 ghost use Rattle.sets.specs.Member.{Members};
 ghost use Rattle.scheme.specs.Landmarks.{Grown, Leaves, DrawnFrom};
 ghost use Rattle.scheme.specs.Task.{task_of};
 
-use crate::{Scheme, Work};
+use crate::Scheme;
 use sets::Set;
 
 impl Scheme {
@@ -17,7 +17,7 @@ impl Scheme {
             return None;
         }
         let grown = self.grown(chosen);
-        Some(leaving(self.works.as_slice(), self.reach(grown)))
+        Some(self.leaving(self.reach(grown)))
     }
 
     /// A set of works with each other work, in rising number, with which it stays insufficient.
@@ -33,18 +33,18 @@ impl Scheme {
         }
         grown
     }
-}
 
-/// The works whose needs lie among some items and whose gives do not.
-fn leaving(works: &[Work], items: Set) -> Set
-    requires { length works.now ≤ 64 }
-    ensures { Members result (λ w. (w < length works.now) × Leaves works.now items w) }
-{
-    let mut found = Set::empty();
-    for (w, work) in works.iter().enumerate() {
-        if work.needs.is_subset(items) && !work.gives.is_subset(items) {
-            found = found.with(w);
+    /// The works whose needs lie among some items and whose gives do not.
+    #[tactic(auto, using(sets::proofs::Laws::none_has))]
+    fn leaving(&self, items: Set) -> Set
+        ensures { Members result (λ w. (w < length (task_of self.now).works) × Leaves (task_of self.now).works items w) }
+    {
+        let mut found = Set::empty();
+        for (w, work) in self.works.iter().enumerate() {
+            if work.needs.is_subset(items) && !work.gives.is_subset(items) {
+                found = found.with(w);
+            }
         }
+        found
     }
-    found
 }

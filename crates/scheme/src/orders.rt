@@ -5,7 +5,7 @@ ghost use Rattle.scheme.specs.Placing.{Filled, Orders};
 ghost use Rattle.scheme.specs.Ready.{FirstReady, NoneReady};
 ghost use Rattle.scheme.specs.Task.{task_of};
 
-use crate::{Refusal, Scheme, Stop, Work};
+use crate::{Refusal, Scheme, Stop};
 use sets::Set;
 
 impl Scheme {
@@ -13,67 +13,57 @@ impl Scheme {
     pub fn carry_out(&self, order: &[u8]) -> Result<Set, Stop>
         ensures { Carries (task_of self.now).works (task_of self.now).standing order.now result }
     {
-        carry(self.works.as_slice(), self.standing, order)
+        let mut held = self.standing;
+        for (place, number) in order.iter().enumerate() {
+            let work = self
+                .works
+                .get(*number as usize)
+                .ok_or(Stop::NotHeld { place })?;
+            if let Some(item) = work.needs.minus(held).lowest() {
+                return Err(Stop::Lacking { place, item });
+            }
+            held = held.union(work.gives);
+        }
+        Ok(held)
     }
 
     /// Writes the order of a set of works into the first places: at each step its lowest-numbered unplaced work whose needs stand.
     /// Answers how many were placed; later places stay.
+    #[tactic(auto, using(crate::proofs::Placings::serves))]
     pub fn order(&self, chosen: Set, places: &mut [u8]) -> Result<usize, Refusal>
         ensures { Orders (task_of self.now) chosen places.old result places.new }
     {
-        let works = self.works.as_slice();
-        if places.len() < works.len() {
+        if places.len() < self.works.len() {
             return Err(Refusal::ListTooShort);
         }
-        Ok(place(works, chosen, self.standing, places))
+        Ok(self.place(chosen, places))
     }
-}
 
-/// Places a set of works from the standing items; answers how many were placed.
-fn place(works: &[Work], chosen: Set, standing: Set, places: &mut [u8]) -> usize
-    requires works_len_bound { length works.now ≤ 64 }
-    requires works_in_bounds { length works.now ≤ length places.old }
-    ensures { Filled works.now chosen standing places.old result places.new }
-{
-    let mut left = chosen;
-    let mut held = standing;
-    let mut placed = 0;
-    while let Some(w) = first_ready(works, left, held) {
-        places[placed] = w as u8;
-        held = held.union(works[w].gives);
-        left = left.without(w);
-        placed += 1;
+    /// Places a set of works; answers how many were placed.
+    fn place(&self, chosen: Set, places: &mut [u8]) -> usize
+        requires { length (task_of self.now).works ≤ length places.old }
+        ensures { Filled (task_of self.now).works chosen (task_of self.now).standing places.old result places.new }
+    {
+        let mut left = chosen;
+        let mut held = self.standing;
+        for (placed, place) in places.iter_mut().enumerate() {
+            let Some(w) = self.first_ready(left, held) else {
+                return placed;
+            };
+            *place = w as u8;
+            held = held.union(self.works[w].gives);
+            left = left.without(w);
+        }
+        places.len()
     }
-    placed
-}
 
-/// Carries out an order of works from the standing items.
-fn carry(works: &[Work], standing: Set, order: &[u8]) -> Result<Set, Stop>
-    ensures { Carries works.now standing order.now result }
-{
-    let mut held = standing;
-    for (place, number) in order.iter().enumerate() {
-        let w = *number as usize;
-        if w >= works.len() {
-            return Err(Stop::NotHeld { place });
-        }
-        let work = works[w];
-        if let Some(item) = work.needs.minus(held).lowest() {
-            return Err(Stop::Lacking { place, item });
-        }
-        held = held.union(work.gives);
+    /// The lowest-numbered work of a set whose needs are held.
+    fn first_ready(&self, left: Set, held: Set) -> Option<usize>
+        ensures { MatchOption result (NoneReady (task_of self.now).works left held (length (task_of self.now).works)) (λ w. FirstReady (task_of self.now).works left held w) }
+    {
+        self.works
+            .iter()
+            .enumerate()
+            .position(|(w, work)| left.contains(w) && work.needs.is_subset(held))
     }
-    Ok(held)
-}
-
-/// The lowest-numbered work of a set whose needs are held.
-fn first_ready(works: &[Work], left: Set, held: Set) -> Option<usize>
-    ensures { MatchOption result (NoneReady works.now left held (length works.now)) (λ w. FirstReady works.now left held w) }
-{
-    for (w, work) in works.iter().enumerate() {
-        if left.contains(w) && work.needs.is_subset(held) {
-            return Some(w);
-        }
-    }
-    None
 }

@@ -2,33 +2,34 @@
 ghost use Rattle.std.specs.Prelude.{◌≡◌, Some};
 ghost use Rattle.scheme.specs.Refusals.{number_of, reason_of};
 
+use std::error::Error;
 use std::fmt;
 
 /// Why a call was refused. A refused call changes nothing, but for the landmarks kept when the capacity is spent.
 #[derive(Clone, Copy, PartialEq, Eq, Debug)]
 pub enum Refusal {
     /// An item above 63.
-    ItemTooHigh,
+    ItemTooHigh = 1,
     /// A work that gives nothing.
-    GivesNothing,
+    GivesNothing = 2,
     /// A work beyond the 64 that a scheme holds.
-    SchemeFull,
+    SchemeFull = 3,
     /// A waiver of an item that is not wanted.
-    NotWanted,
+    NotWanted = 4,
     /// Not one price for each work.
-    PriceCount,
+    PriceCount = 5,
     /// A price above the ceiling.
-    PriceTooHigh,
+    PriceTooHigh = 6,
     /// A work that is not held.
-    NoSuchWork,
+    NoSuchWork = 7,
     /// A lent list that is shorter than what it is to take.
-    ListTooShort,
+    ListTooShort = 8,
     /// No order of unbarred works leaves every wanted item standing.
-    OutOfReach,
+    OutOfReach = 9,
     /// No place is left for a landmark.
-    CapacitySpent,
+    CapacitySpent = 10,
     /// A candidate's order of more than 64 works.
-    PaperTooLong,
+    PaperTooLong = 11,
 }
 
 impl Refusal {
@@ -36,19 +37,7 @@ impl Refusal {
     pub fn number(self) -> u8
         ensures { result ≡ number_of self }
     {
-        match self {
-            Refusal::ItemTooHigh => 1,
-            Refusal::GivesNothing => 2,
-            Refusal::SchemeFull => 3,
-            Refusal::NotWanted => 4,
-            Refusal::PriceCount => 5,
-            Refusal::PriceTooHigh => 6,
-            Refusal::NoSuchWork => 7,
-            Refusal::ListTooShort => 8,
-            Refusal::OutOfReach => 9,
-            Refusal::CapacitySpent => 10,
-            Refusal::PaperTooLong => 11,
-        }
+        self as u8
     }
 
     /// The reason in plain words.
@@ -78,3 +67,5 @@ impl fmt::Display for Refusal {
         f.pad(self.reason())
     }
 }
+
+impl Error for Refusal {}

@@ -1,8 +1,8 @@
 -- The filling pass: what one more record adds.
-use Rattle.std.proofs.Common.{◌≡◌, ℕ, suc, ◌+◌, ◌^◌, ◌<◌, ◌≤◌, List, [], ◌∷◌, ◌++◌, map, length, get_or, take, drop, set, Ok, Err, Result, sym, refl, ap, ◌∙◌, subst, ap₂, ⊎_elim, add-zero, arith}
+use Rattle.std.proofs.Common.{◌≡◌, ℕ, suc, ◌+◌, ◌^◌, ◌<◌, ◌≤◌, List, [], ◌∷◌, ◌++◌, map, length, get_or, take, drop, Ok, Err, Result, sym, refl, ap, ◌∙◌, subst, ap₂, ⊎_elim, add-zero, arith}
 use Rattle.std.specs.List.{AllByRecursion}
 use Rattle.std.proofs.ByRecursion.{All-push}
-use Rattle.std.proofs.lemmas.List.{append_assoc, drop-drop, take_at, get_or-drop, length-append, length-drop, length_push, length-take-le, map_push, drop-set-lt, drop-append-le, take_all, take-append-drop, take-append-le}
+use Rattle.std.proofs.lemmas.List.{append_assoc, drop-drop, take_at, get_or-drop, length-append, length-drop, length_push, length-take-le, map_push, drop-append-le, take_all, take-append-drop, take-append-le}
 use Rattle.sets.specs.declared.Set.{Set}
 use Rattle.sets.specs.Member.{none}
 use Rattle.scheme.specs.declared.refusals.Refusal.{Refusal}
@@ -62,11 +62,6 @@ pub front_more :
 front_more {bytes} all rs r next c before is e =
     before ∙ ap (λ l. bytes_of rs ++ l) (c.same ∙ ap₂ (λ x i. encode x ++ drop i bytes) (sym is) (sym e))
     ∙ sym (append_assoc (bytes_of rs) (encode r) (drop next bytes)) ∙ ap (λ l. l ++ drop next bytes) (sym (bytes_more rs r))
-
--- a row is filled, and the later ones stay
-pub later_more : {X : Type 0} (rows was : List X) (i : ℕ) (x : X) → drop i rows ≡ drop i was → drop (i + 1) (set rows i x) ≡ drop (i + 1) was
-later_more rows was i x same =
-    drop-set-lt (i + 1) rows i x (omega arith) ∙ sym (drop-drop 1 i rows) ∙ ap (drop 1) same ∙ drop-drop 1 i was
 
 -- ---- items
 

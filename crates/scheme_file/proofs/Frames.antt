@@ -1,5 +1,5 @@
 -- Records among bytes: the parts of a record where they stand.
-use Rattle.std.proofs.Common.{◌≡◌, ℕ, ◌+◌, ◌-◌, ◌*◌, ◌<◌, ◌≤◌, List, [], ◌∷◌, ◌++◌, length, get_or, take, drop, Some, sym, refl, ap, ◌∙◌, ap₂, arith, rules}
+use Rattle.std.proofs.Common.{◌≡◌, ℕ, ◌+◌, ◌-◌, ◌<◌, ◌≤◌, List, ◌++◌, length, get_or, take, drop, Some, sym, refl, ap, ◌∙◌, ap₂, arith, rules}
 use Rattle.std.proofs.lemmas.List.{same_lists, places, take-append-drop, drop-drop, length-drop, length-take-le, get_or-drop, append_assoc}
 use Rattle.std.proofs.lemmas.Bool.Decides.{nat_tests}
 use Rattle.scheme_file.specs.declared.kinds.Kind.{Kind}
@@ -7,19 +7,26 @@ use Rattle.scheme_file.specs.declared.kinds.Kind.TheVariants.{Head, Item, Work, 
 use Rattle.scheme_file.specs.Bytes.{le, value}
 use Rattle.scheme_file.specs.Format.{encode}
 use Rattle.scheme_file.specs.Kinds.{code_of, named}
-use Rattle.scheme_file.specs.Rules.{Kept, body_in, code, frame_rules, size}
+use Rattle.scheme_file.specs.Rules.{Complete, Kept, body_in, code, frame_rules, size}
 use Rattle.scheme_file.proofs.Digits.{le_value}
 
--- the number in the first two bytes
-pub value_two : (xs : List ℕ) → 2 ≤ length xs → value (take 2 xs) ≡ get_or xs 0 0 + get_or xs 1 0 * 256
-value_two [] h = absurd (omega arith)
-value_two (x ∷ []) h = absurd (omega arith)
-value_two (x ∷ (y ∷ xs)) h = omega arith
-
--- a body as the slices have it
-pub body_part : (rest : List ℕ) (s : ℕ) → s + 2 ≤ length rest →
-    (let X : List ℕ = take (s - 0) (take (length rest - 2) (drop 2 rest)) in take (length X - 2) (drop 2 X)) ≡ take (s - 2) (drop 4 rest)
-body_part rest s h = same_lists _ _ (search (rules, places)) (λ k d lt. grind (arith, places))
+-- a frame's parts, cut off one after another
+pub cut_frame :
+    (rest first after whole second body : List ℕ) (s : ℕ) →
+    (first ≡ take 2 rest) × (after ≡ drop 2 rest) × (length after + 2 ≡ length rest) →
+    s ≡ value first →
+    (whole ≡ take s after) × (s ≤ length after) →
+    (second ≡ take 2 whole) × (body ≡ drop 2 whole) × (length body + 2 ≡ length whole) →
+    Complete rest × (2 ≤ size rest) × (code rest ≡ value second) × (body ≡ body_in rest)
+cut_frame rest first after whole second body s one sized two three =
+    let is : size rest ≡ s = ap value (sym one.0) ∙ sym sized in
+    let long : length whole ≡ s = ap length two.0 ∙ length-take-le s after two.1 in
+    let part : whole ≡ take s (drop 2 rest) = two.0 ∙ ap (take s) one.1 in (
+      (omega arith, omega arith),
+      omega arith,
+      ap value (sym (three.0 ∙ ap (take 2) part ∙ same_lists _ _ (search (rules, places)) (λ k d lt. grind (arith, places)))),
+      three.1 ∙ ap (drop 2) part ∙ same_lists _ _ (search (rules, places)) (λ k d lt. grind (arith, places)),
+    )
 
 -- a kind stands behind its code alone
 pub code_named : (n : ℕ) (k : Kind) → named n ≡ Some k → code_of k ≡ n

@@ -31,18 +31,6 @@ sane_after p Standing body sane kept = record { items = sane.items; least = sane
 sane_after p Wanted body sane kept = record { items = sane.items; least = sane.least; works = sane.works }
 sane_after p End body sane kept = record { items = sane.items; least = sane.least; works = sane.works }
 
-pub upto_start : (bytes : List ℕ) → Upto bytes start 0 0
-upto_start bytes = record {
-  before = [];
-  good = refl;
-  split = refl;
-  offset = refl;
-  number = refl;
-  sane = record { items = omega arith; least = omega arith; works = omega arith };
-  within = omega arith;
-  fewer = omega arith;
-}
-
 -- the checking pass goes on by a record
 pub upto_more : {bytes : List ℕ} {p q : Place} {at n s : ℕ} → Upto bytes p at n → Stepped p (drop at bytes) q s →
     Upto bytes q (at + s) (n + 1)

@@ -1,4 +1,3 @@
-mod Cuts
 mod Digits
 mod Frames
 mod Goings
@@ -8,7 +7,6 @@ mod Adds
 mod Wholes
 mod Vets
 pub mod Puts
-mod Rewrites
 mod Keeping
 mod Uniques
 mod OneFault

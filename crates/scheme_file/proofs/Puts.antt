@@ -3,12 +3,13 @@ use Rattle.std.proofs.Common.{◌≡◌, ℕ, zero, suc, ◌+◌, ◌<◌, ◌�
 use Rattle.std.proofs.lemmas.List.{append_assoc, drop_at, drop-drop, length-append, length-drop, length-take-le, take-append-drop, take_at, take_more}
 use Rattle.scheme.specs.declared.Work.{Work}
 use Rattle.scheme_file.specs.declared.kinds.Kind.{Kind}
+use Rattle.scheme_file.specs.declared.putting.Output.{Output}
 use Rattle.scheme_file.specs.declared.rows.WorkRow.{WorkRow}
 use Rattle.scheme_file.specs.Bytes.{le}
 use Rattle.scheme_file.specs.Contents.{entries, entry_in}
 use Rattle.scheme_file.specs.Format.{Record, bytes_of, encode}
 use Rattle.scheme_file.specs.Kinds.{code_of}
-use Rattle.scheme_file.specs.Passes.{Wrote}
+use Rattle.scheme_file.specs.Passes.{Put, Room, Wrote}
 use Rattle.scheme_file.proofs.Goings.{bytes_more}
 
 pub wrote_length : {was xs out : List ℕ} {at next : ℕ} → Wrote was at xs out next → length out ≡ length was
@@ -52,6 +53,17 @@ wrote_more {was} {xs} {out} {ys} {then} {at} {next} {end} w v =
 pub wrote_as : {was xs ys out : List ℕ} {at next : ℕ} → xs ≡ ys → Wrote was at xs out next → Wrote was at ys out next
 wrote_as {was} {out} {at} {next} e w = subst (λ (l : List ℕ). Wrote was at l out next) e w
 
+pub wrote_none : (was : List ℕ) (at : ℕ) → at ≤ length was → Wrote was at [] was at
+wrote_none was at h = record { same = sym (rw add-zero (take-append-drop at was)); end = sym (add-zero at); room = omega arith }
+
+-- ---- what an output holds
+
+pub put_more : {was out then : Output} {xs ys : List ℕ} → Put was xs out → Put out ys then → Put was (xs ++ ys) then
+put_more p q = record { wrote = wrote_more p.wrote q.wrote; lent = q.lent ∙ p.lent; text = q.text ∙ p.text }
+
+pub put_as : {was out : Output} {xs ys : List ℕ} → xs ≡ ys → Put was xs out → Put was ys out
+put_as {was} {out} e p = subst (λ (l : List ℕ). Put was l out) e p
+
 -- ---- records one after another
 
 -- a record's frame, and then its body
@@ -70,15 +82,13 @@ module _ (rs : List Record) (i : ℕ) (d : Record) (here : i < length rs) where
   one_more = ap bytes_of (take_more rs i d here) ∙ bytes_more (take i rs) (get_or rs i d)
 
   -- there is room for the next record
-  pub record_room : (from at room : ℕ) → at ≡ from + length (bytes_of (take i rs)) → from + length (bytes_of rs) ≤ room →
-      at + length (encode (get_or rs i d)) ≤ room
-  record_room from at room e all =
-      omega (arith, prefix_size rs (i + 1), ap length one_more, length-append (bytes_of (take i rs)) (encode (get_or rs i d)))
+  pub record_room : {was out : Output} → Put was (bytes_of (take i rs)) out → Room was (length (bytes_of rs)) → Room out (length (encode (get_or rs i d)))
+  record_room p all =
+      omega (arith, p.wrote.end, wrote_length p.wrote, prefix_size rs (i + 1), ap length one_more, length-append (bytes_of (take i rs)) (encode (get_or rs i d)))
 
   -- the next record is put
-  pub record_step : {was out then : List ℕ} {from at next : ℕ} → Wrote was from (bytes_of (take i rs)) out at → Wrote out at (encode (get_or rs i d)) then next →
-      Wrote was from (bytes_of (take (i + 1) rs)) then next
-  record_step w v = wrote_as (sym one_more) (wrote_more w v)
+  pub record_step : {was out then : Output} → Put was (bytes_of (take i rs)) out → Put out (encode (get_or rs i d)) then → Put was (bytes_of (take (i + 1) rs)) then
+  record_step p q = put_as (sym one_more) (put_more p q)
 
 pub get_or_entries : (text : List ℕ) (works : List Work) (rows : List WorkRow) (i : ℕ) (w : Work) (r : WorkRow) → length rows ≡ length works →
     get_or (entries text works rows) i (entry_in text w r) ≡ entry_in text (get_or works i w) (get_or rows i r)
@@ -88,9 +98,6 @@ get_or_entries text (x ∷ works) [] i w r e = absurd (omega arith)
 get_or_entries text (x ∷ works) (y ∷ rows) zero w r e = refl
 get_or_entries text (x ∷ works) (y ∷ rows) (suc i) w r e = get_or_entries text works rows i w r (omega arith)
 
-pub wrote_none : (was : List ℕ) (at : ℕ) → at ≤ length was → Wrote was at [] was at
-wrote_none was at h = record { same = sym (rw add-zero (take-append-drop at was)); end = sym (add-zero at); room = omega arith }
-
 -- bytes put from the start on
 pub wrote_all : {was xs out : List ℕ} {n : ℕ} → Wrote was 0 xs out n → (take n out ≡ xs) × (drop n out ≡ drop n was) × (n ≡ length xs) × (n ≤ length out)
 wrote_all {was} {xs} {out} {n} w =
@@ -98,6 +105,3 @@ wrote_all {was} {xs} {out} {n} w =
     let rest : 0 + length xs ≡ n = omega (arith, w.end) in
     let cut : out ≡ xs ++ drop n was = w.same ∙ ap (λ k. xs ++ drop k was) rest in
     (ap (take n) cut ∙ take_at xs (drop n was) n (sym long), ap (drop n) cut ∙ drop_at xs (drop n was) n (sym long), long, omega (arith, w.room, wrote_length w))
-
-pub take_length : (n : ℕ) (out xs : List ℕ) → take n out ≡ xs → n ≤ length out → n ≡ length xs
-take_length n out xs e h = sym (length-take-le n out h) ∙ ap length e

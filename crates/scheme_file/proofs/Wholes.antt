@@ -2,7 +2,7 @@
 use Rattle.std.proofs.Common.{◌≡◌, ℕ, ◌+◌, ◌*◌, ◌<◌, ◌≤◌, ◌⊎◌, List, [], ◌∷◌, ◌++◌, map, length, drop, sym, refl, ap, ◌∙◌, subst, ap₂, inl, inr, ⊎_elim, mul-suc, arith}
 use Rattle.std.specs.List.{AllByRecursion}
 use Rattle.std.proofs.ByRecursion.{All-map, All-weaker}
-use Rattle.std.proofs.lemmas.List.{length-append, length-map, length_push}
+use Rattle.std.proofs.lemmas.List.{append_assoc, length-append, length-map, length_push}
 use Rattle.scheme.specs.Task.{Task}
 use Rattle.scheme_file.specs.declared.kinds.Kind.{Kind}
 use Rattle.scheme_file.specs.declared.kinds.Kind.TheVariants.{Head, Item, Work, Standing, Wanted, End}
@@ -181,14 +181,18 @@ whole_some {bytes} {p} w =
 
 -- ---- a file from its parts
 
+in_turn : (a b c d e f : List ℕ) → ((((a ++ b) ++ c) ++ d) ++ e) ++ f ≡ a ++ (b ++ (c ++ (d ++ (e ++ f))))
+in_turn a b c d e f = simp append_assoc
+
 pub file_parts : (c : Contents) →
-    encode (mark Head) ++ (bytes_of (map item_record c.items) ++ (bytes_of (map work_record c.works)
-    ++ (encode (set_record Standing c.standing) ++ (encode (set_record Wanted c.wanted) ++ encode (mark End))))) ≡ file c
+    ((((encode (mark Head) ++ bytes_of (map item_record c.items)) ++ bytes_of (map work_record c.works))
+    ++ encode (set_record Standing c.standing)) ++ encode (set_record Wanted c.wanted)) ++ encode (mark End) ≡ file c
 file_parts c =
     let items = map item_record c.items in
     let works = map work_record c.works in
     let last = set_record Standing c.standing ∷ set_record Wanted c.wanted ∷ mark End ∷ [] in
-    sym (ap (λ l. encode (mark Head) ++ l) (bytes_append items (works ++ last) ∙ ap (λ l. bytes_of items ++ l) (bytes_append works last)))
+    in_turn (encode (mark Head)) (bytes_of items) (bytes_of works) (encode (set_record Standing c.standing)) (encode (set_record Wanted c.wanted)) (encode (mark End))
+    ∙ sym (ap (λ l. encode (mark Head) ++ l) (bytes_append items (works ++ last) ∙ ap (λ l. bytes_of items ++ l) (bytes_append works last)))
 
 pub file_length : (c : Contents) → length (file c) ≡ 32 + length (bytes_of (map item_record c.items)) + length (bytes_of (map work_record c.works))
 file_length c =

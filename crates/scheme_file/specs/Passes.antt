@@ -1,12 +1,18 @@
 -- What the contracts of private functions cite.
-use Rattle.std.specs.Prelude.{◌≡◌, ℕ, ◌+◌, ◌^◌, ◌<◌, ◌≤◌, ◌⊎◌, List, [], ◌∷◌, ◌++◌, map, length, take, drop}
+use Rattle.std.specs.Prelude.{◌≡◌, ℕ, Bool, Result, ◌+◌, ◌^◌, ◌<◌, ◌≤◌, ◌⊎◌, List, [], ◌∷◌, ◌++◌, map, length, take, drop}
 use Rattle.std.specs.List.{AllByRecursion}
 use Rattle.sets.specs.declared.Set.{Set}
 use Rattle.sets.specs.Member.{Has, Members}
+use Rattle.std.specs.Borrow.{MutBor}
+use Rattle.scheme.specs.declared.Scheme.{Scheme}
 use Rattle.scheme.specs.declared.Work.{Work}
+use Rattle.scheme.specs.declared.refusals.Refusal.{Refusal}
+use Rattle.scheme.specs.Edits.{Added}
+use Rattle.scheme.specs.Task.{Task, task_of}
 use Rattle.scheme_file.specs.declared.kinds.Kind.TheVariants.{Head}
 use Rattle.scheme_file.specs.declared.stages.Stage.TheVariants.{Closed}
 use Rattle.scheme_file.specs.declared.places.Place.{Place}
+use Rattle.scheme_file.specs.declared.putting.Output.{Output}
 use Rattle.scheme_file.specs.declared.rows.ItemRow.{ItemRow}
 use Rattle.scheme_file.specs.declared.rows.WorkRow.{WorkRow}
 use Rattle.scheme_file.specs.Bytes.{le, value}
@@ -123,6 +129,19 @@ pub record RowAt (bytes : List ℕ) (at : ℕ) (r : WorkRow) : Type 0 where
 abbrev pub Adding : Set → Set → Set → Type 0
 Adding items held rest = Members items (λ k. Has held k ⊎ Has rest k)
 
+-- a set of a task: how it is read, and how it is put
+pub record Part : Type 0 where
+  pub get : Task → Set
+  pub put : Task → Set → Task
+  pub same : (k : Task) → put k (get k) ≡ k
+  pub again : (k : Task) (a b : Set) → put (put k a) b ≡ put k b
+
+-- each call adds an item to that set, and changes nothing else
+abbrev pub Adds : Part → (MutBor Scheme → ℕ → Result Bool Refusal → MutBor Scheme → Type 0) → Type 0
+Adds part post =
+    (s : MutBor Scheme) (i : ℕ) (r : Result Bool Refusal) (t : MutBor Scheme) → post s i r t →
+    Added (part.get (task_of s.now)) i r (part.get (task_of t.now)) × (task_of t.now ≡ part.put (task_of s.now) (part.get (task_of t.now)))
+
 -- ---- the rows to be written
 
 pub record ItemFits (text : List ℕ) (least : ℕ) (r : ItemRow) : Type 0 where
@@ -154,3 +173,13 @@ pub record Wrote (was : List ℕ) (at : ℕ) (xs out : List ℕ) (next : ℕ) : 
   pub same : out ≡ take at was ++ (xs ++ drop (at + length xs) was)
   pub end : next ≡ at + length xs
   pub room : at + length xs ≤ length was
+
+-- there is room for n more bytes
+abbrev pub Room : Output → ℕ → Type 0
+Room out n = out.at + n ≤ length out.bytes.now
+
+-- xs are put behind those that were put, into the same lent bytes and beside the same text
+pub record Put (was : Output) (xs : List ℕ) (out : Output) : Type 0 where
+  pub wrote : Wrote was.bytes.now was.at xs out.bytes.now out.at
+  pub lent : out.bytes.ghost_name ≡ was.bytes.ghost_name
+  pub text : out.text.now ≡ was.text.now

@@ -1,12 +1,13 @@
 //! Why a file or a call is refused.
 ghost use Rattle.std.specs.Prelude.{◌≡◌};
-ghost use Rattle.scheme_file.specs.declared.causes.Cause.TheVariants.{Refused};
+ghost use Rattle.scheme_file.specs.declared.causes.Cause.TheVariants.{Refused, UnknownKind};
 ghost use Rattle.scheme_file.specs.Causes.{cause_number};
 
+use crate::kinds;
 use scheme::Refusal;
 
 /// Why a file or a call is refused.
-#[derive(Clone, Copy)]
+#[derive(Clone, Copy, PartialEq, Eq, Debug)]
 pub enum Cause {
     /// What the scheme itself would refuse.
     Refused(Refusal),
@@ -52,8 +53,16 @@ impl From<Refusal> for Cause {
     }
 }
 
+impl From<kinds::UnknownKind> for Cause {
+    ghost from_gives = { λ _ cause. cause ≡ UnknownKind };
+
+    fn from(_: kinds::UnknownKind) -> Cause {
+        Self::UnknownKind
+    }
+}
+
 /// Why a file is refused, and where.
-#[derive(Clone, Copy)]
+#[derive(Clone, Copy, PartialEq, Eq, Debug)]
 pub struct Fault {
     /// The record's number, from 0.
     pub index: usize,

@@ -1,16 +1,17 @@
 //! The checking pass: every rule is tested, and nothing is written.
-ghost use Rattle.std.specs.Prelude.{◌≡◌, ◌<◌, ◌≤◌, ◌⊎◌, length, Some, MatchResult, ◌≢◌};
+ghost use Rattle.std.specs.Prelude.{◌≡◌, ◌<◌, ◌≤◌, ◌⊎◌, length, drop, Some, MatchResult, ◌≢◌};
 ghost use Rattle.scheme.specs.declared.refusals.Refusal.TheVariants.{ItemTooHigh, GivesNothing, SchemeFull};
 ghost use Rattle.scheme_file.specs.declared.causes.Cause.TheVariants.{NameByte};
 ghost use Rattle.scheme_file.specs.declared.kinds.Kind.TheVariants.{Item, Work};
+ghost use Rattle.scheme_file.specs.declared.stages.Stage.TheVariants.{Closed};
 ghost use Rattle.scheme_file.specs.Faults.{Amiss};
 ghost use Rattle.scheme_file.specs.Kinds.{named};
-ghost use Rattle.scheme_file.specs.Passes.{Sane, Stepped, Whole};
+ghost use Rattle.scheme_file.specs.Passes.{Sane, Stepped, Upto, Whole};
 ghost use Rattle.scheme_file.specs.Rules.{Broken, ByRules, Text, after, body_in, code, field_rules, frame_rules, record_rules, rules};
 
 use crate::causes::{Cause, Fault};
 use crate::kinds::Kind;
-use crate::numbers::long;
+use crate::numbers::{Number, number_at};
 use crate::places::Place;
 use crate::stages::Stage;
 use scheme::{Refusal, Scheme};
@@ -19,17 +20,11 @@ use scheme::{Refusal, Scheme};
 fn frame(rest: &[u8]) -> Result<(Kind, &[u8]), Cause>
     ensures { ByRules (frame_rules rest.now) result (λ x. (named (code rest.now) ≡ Some x.0) × (x.1.now ≡ body_in rest.now)) }
 {
-    let [l0, l1, after @ ..] = rest else {
-        return Err(Cause::CutShort);
-    };
-    let size = u16::from_le_bytes([*l0, *l1]) as usize;
-    if after.len() < size {
-        return Err(Cause::CutShort);
-    }
-    let [k0, k1, body @ ..] = &after[0..size] else {
-        return Err(Cause::UnknownKind);
-    };
-    let kind = Kind::named(u16::from_le_bytes([*k0, *k1])).ok_or(Cause::UnknownKind)?;
+    let (size, after) = rest.split_first_chunk().ok_or(Cause::CutShort)?;
+    let size = u16::from_bytes(size) as usize;
+    let record = after.get(..size).ok_or(Cause::CutShort)?;
+    let (code, body) = record.split_first_chunk().ok_or(Cause::UnknownKind)?;
+    let kind = Kind::try_from(u16::from_bytes(code))?;
     Ok((kind, body))
 }
 
@@ -37,12 +32,11 @@ fn frame(rest: &[u8]) -> Result<(Kind, &[u8]), Cause>
 pub fn readable(name: &[u8]) -> Result<(), Cause>
     ensures { MatchResult result (λ _. Text name.now) (λ c. (c ≡ NameByte) × (Text name.now → ⊥)) }
 {
-    for b in name {
-        if *b < 32 || *b > 126 {
-            return Err(Cause::NameByte);
-        }
+    if name.iter().all(|b| (32..=126).contains(b)) {
+        Ok(())
+    } else {
+        Err(Cause::NameByte)
     }
-    Ok(())
 }
 
 /// Refuses an item that the scheme cannot hold.
@@ -54,25 +48,6 @@ fn low(item: usize) -> Result<(), Refusal>
     } else {
         Ok(())
     }
-}
-
-/// The place after an item.
-fn item(place: Place, body: &[u8]) -> Result<Place, Cause>
-    requires { Sane place × (2 ≤ length body.now) }
-    ensures { ByRules (field_rules place Item body.now) result (λ p. p ≡ after place Item body.now) }
-{
-    let number = body[0] as usize;
-    if number < place.least {
-        return Err(Cause::OutOfOrder);
-    }
-    readable(&body[1..])?;
-    low(number)?;
-    Ok(Place {
-        stage: Stage::Items,
-        least: number + 1,
-        items: place.items + 1,
-        works: place.works,
-    })
 }
 
 /// Refuses a work that gives nothing or comes after the 64 that a scheme holds.
@@ -88,45 +63,122 @@ fn enterable(works: usize, gives: u64) -> Result<(), Refusal>
     Ok(())
 }
 
-/// The place after a work.
-fn work(place: Place, body: &[u8]) -> Result<Place, Cause>
-    requires { Sane place × (21 ≤ length body.now) }
-    ensures { ByRules (field_rules place Work body.now) result (λ p. p ≡ after place Work body.now) }
-{
-    readable(&body[20..])?;
-    enterable(place.works, long(body, 8))?;
-    Ok(Place {
-        stage: Stage::Works,
-        least: place.least,
-        items: place.items,
-        works: place.works + 1,
-    })
+/// The records of a file, up to the first that is not tested yet.
+#[derive(Clone, Copy)]
+struct Records<'a> {
+    bytes: &'a [u8],
+    /// Where the tested records end.
+    place: Place,
+    /// The offset of the next record, and its number.
+    at: usize,
+    index: usize,
+    ghost sane: { Sane place },
 }
 
-/// The place after a record of that kind and body.
-fn admit(place: Place, kind: Kind, body: &[u8]) -> Result<Place, Cause>
-    requires { Sane place }
-    ensures { ByRules (record_rules place kind body.now) result (λ p. p ≡ after place kind body.now) }
-{
-    if !kind.allows(2 + body.len()) {
-        return Err(Cause::WrongLength);
+impl<'a> Records<'a> {
+    /// The records of bytes, none of which is tested yet.
+    fn new(bytes: &'a [u8]) -> Records<'a>
+        ensures { (result.bytes.now ≡ bytes.now) × Upto bytes.now result.place result.at result.index }
+    {
+        Records {
+            bytes,
+            place: Place::default(),
+            at: 0,
+            index: 0,
+        }
     }
-    let stage = place.stage.after(kind).ok_or(Cause::OutOfOrder)?;
-    match kind {
-        Kind::Item => item(place, body),
-        Kind::Work => work(place, body),
-        Kind::Head | Kind::Standing | Kind::Wanted | Kind::End => Ok(Place { stage, ..place }),
-    }
-}
 
-/// The place after the record that the bytes begin with, and the record's size.
-fn step(place: Place, rest: &[u8]) -> Result<(Place, usize), Cause>
-    requires { Sane place }
-    ensures { MatchResult result (λ x. Stepped place rest.now x.0 x.1) (λ c. Broken (rules place rest.now) c) }
-{
-    let (kind, body) = frame(rest)?;
-    let next = admit(place, kind, body)?;
-    Ok((next, 4 + body.len()))
+    /// The place after an item.
+    fn item(&self, body: &[u8]) -> Result<Place, Cause>
+        requires { 2 ≤ length body.now }
+        ensures { ByRules (field_rules self.now.place Item body.now) result (λ p. p ≡ after self.now.place Item body.now) }
+    {
+        let number = body[0] as usize;
+        if number < self.place.least {
+            return Err(Cause::OutOfOrder);
+        }
+        readable(&body[1..])?;
+        low(number)?;
+        Ok(Place {
+            stage: Stage::Items,
+            least: number + 1,
+            items: self.place.items + 1,
+            ..self.place
+        })
+    }
+
+    /// The place after a work.
+    fn work(&self, body: &[u8]) -> Result<Place, Cause>
+        requires { 21 ≤ length body.now }
+        ensures { ByRules (field_rules self.now.place Work body.now) result (λ p. p ≡ after self.now.place Work body.now) }
+    {
+        readable(&body[20..])?;
+        enterable(self.place.works, number_at(body, 8))?;
+        Ok(Place {
+            stage: Stage::Works,
+            works: self.place.works + 1,
+            ..self.place
+        })
+    }
+
+    /// The place after a record of that kind and body.
+    fn admit(&self, kind: Kind, body: &[u8]) -> Result<Place, Cause>
+        ensures { ByRules (record_rules self.now.place kind body.now) result (λ p. p ≡ after self.now.place kind body.now) }
+    {
+        if !kind.allows(2 + body.len()) {
+            return Err(Cause::WrongLength);
+        }
+        let stage = self.place.stage.after(kind).ok_or(Cause::OutOfOrder)?;
+        match kind {
+            Kind::Item => self.item(body),
+            Kind::Work => self.work(body),
+            Kind::Head | Kind::Standing | Kind::Wanted | Kind::End => Ok(Place {
+                stage,
+                ..self.place
+            }),
+        }
+    }
+
+    /// The place after the record that the bytes begin with, and the record's size.
+    fn step(&self, rest: &[u8]) -> Result<(Place, usize), Cause>
+        ensures { MatchResult result (λ x. Stepped self.now.place rest.now x.0 x.1) (λ c. Broken (rules self.now.place rest.now) c) }
+    {
+        let (kind, body) = frame(rest)?;
+        let next = self.admit(kind, body)?;
+        Ok((next, 4 + body.len()))
+    }
+
+    /// The fault of the next record.
+    fn fault(&self, cause: Cause) -> Fault
+        ensures index { result.index ≡ self.now.index }
+        ensures offset { result.offset ≡ self.now.at }
+        ensures cause { result.cause ≡ cause }
+    {
+        Fault {
+            index: self.index,
+            offset: self.at,
+            cause,
+        }
+    }
+
+    /// Tests the next record.
+    fn advance(&mut self) -> Result<(), Fault>
+        requires { Upto self.old.bytes.now self.old.place self.old.at self.old.index × (self.old.place.stage ≢ Closed) }
+        ensures { (self.new.bytes.now ≡ self.old.bytes.now) × MatchResult result (λ _. Upto self.old.bytes.now self.new.place self.new.at self.new.index × (self.old.at < self.new.at)) (λ f. Amiss self.old.bytes.now f) }
+    {
+        match self.step(&self.bytes[self.at..]) {
+            Ok((place, size)) => {
+                *self = Records {
+                    bytes: self.bytes,
+                    place,
+                    at: self.at + size,
+                    index: self.index + 1,
+                };
+                Ok(())
+            }
+            Err(cause) => Err(self.fault(cause)),
+        }
+    }
 }
 
 /// Where the checking pass ends.
@@ -141,31 +193,15 @@ pub struct Checked {
 pub fn check(bytes: &[u8]) -> Result<Checked, Fault>
     ensures { MatchResult result (λ e. Whole bytes.now e.place e.records) (λ f. Amiss bytes.now f) }
 {
-    let mut place = Place::start();
-    let mut at = 0;
-    let mut records = 0;
-    while place.stage != Stage::Closed {
-        match step(place, &bytes[at..]) {
-            Ok((next, size)) => {
-                place = next;
-                at += size;
-                records += 1;
-            }
-            Err(cause) => {
-                return Err(Fault {
-                    index: records,
-                    offset: at,
-                    cause,
-                });
-            }
-        }
+    let mut records = Records::new(bytes);
+    while records.place.stage != Stage::Closed {
+        records.advance()?;
     }
-    if at < bytes.len() {
-        return Err(Fault {
-            index: records,
-            offset: at,
-            cause: Cause::OutOfOrder,
-        });
+    if records.at < bytes.len() {
+        return Err(records.fault(Cause::OutOfOrder));
     }
-    Ok(Checked { place, records })
+    Ok(Checked {
+        place: records.place,
+        records: records.index,
+    })
 }

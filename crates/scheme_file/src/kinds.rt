@@ -1,65 +1,66 @@
 //! The kinds of record.
-ghost use Rattle.std.specs.Prelude.{◌≡◌, MatchBool};
+ghost use Rattle.std.specs.Prelude.{◌≡◌, MatchBool, MatchResult, Some, None};
 ghost use Rattle.scheme_file.specs.Kinds.{code_of, named, Allowed};
 
-/// What a record tells. A file has its kinds in this order.
-#[derive(Clone, Copy)]
+/// What a record tells. A file has its kinds in this order, and each has its code there.
+#[derive(Clone, Copy, PartialEq, Eq, Debug)]
 pub enum Kind {
     /// The file's first record.
-    Head,
+    Head = 1,
     /// An item that has a name.
-    Item,
+    Item = 2,
     /// A work of the scheme.
-    Work,
+    Work = 3,
     /// The items standing at the start.
-    Standing,
+    Standing = 4,
     /// The wanted items.
-    Wanted,
+    Wanted = 5,
     /// The file's last record.
-    End,
+    End = 6,
+}
+
+/// A code that no kind has.
+#[derive(Clone, Copy, PartialEq, Eq, Debug)]
+pub struct UnknownKind;
+
+impl TryFrom<u16> for Kind {
+    type Error = UnknownKind;
+
+    ghost try_from_gives = { λ code result. MatchResult result (λ kind. named code ≡ Some kind) (λ _. named code ≡ None) };
+
+    /// The kind that a file's code stands for.
+    fn try_from(code: u16) -> Result<Kind, UnknownKind> {
+        match code {
+            1 => Ok(Kind::Head),
+            2 => Ok(Kind::Item),
+            3 => Ok(Kind::Work),
+            4 => Ok(Kind::Standing),
+            5 => Ok(Kind::Wanted),
+            6 => Ok(Kind::End),
+            _ => Err(UnknownKind),
+        }
+    }
+}
+
+impl From<Kind> for u16 {
+    ghost from_gives = { λ kind code. code ≡ code_of kind };
+
+    /// The code that stands for the kind in a file.
+    fn from(kind: Kind) -> u16 {
+        kind as u16
+    }
 }
 
 impl Kind {
-    /// The kind that a file's code stands for.
-    pub fn named(code: u16) -> Option<Kind>
-        ensures { result ≡ named code }
-    {
-        match code {
-            1 => Some(Kind::Head),
-            2 => Some(Kind::Item),
-            3 => Some(Kind::Work),
-            4 => Some(Kind::Standing),
-            5 => Some(Kind::Wanted),
-            6 => Some(Kind::End),
-            _ => None,
-        }
-    }
-
-    /// The code that stands for the kind in a file.
-    pub fn code(self) -> u16
-        ensures { result ≡ code_of self }
-    {
-        match self {
-            Kind::Head => 1,
-            Kind::Item => 2,
-            Kind::Work => 3,
-            Kind::Standing => 4,
-            Kind::Wanted => 5,
-            Kind::End => 6,
-        }
-    }
-
     /// Whether a record of this kind can have that length, its own two bytes not counted.
     pub fn allows(self, length: usize) -> bool
         ensures { MatchBool result (Allowed self length) (Allowed self length → ⊥) }
     {
         match self {
-            Kind::Head => length == 2,
-            Kind::Item => length >= 4 && length <= 43,
-            Kind::Work => length >= 23 && length <= 62,
-            Kind::Standing => length == 10,
-            Kind::Wanted => length == 10,
-            Kind::End => length == 2,
+            Kind::Head | Kind::End => length == 2,
+            Kind::Item => (4..=43).contains(&length),
+            Kind::Work => (23..=62).contains(&length),
+            Kind::Standing | Kind::Wanted => length == 10,
         }
     }
 }

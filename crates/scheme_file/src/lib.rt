@@ -40,7 +40,7 @@ mod vetting;
 mod writing;
 
 pub use causes::{Cause, Fault};
-pub use reading::read;
+pub use reading::{INPUT, read};
 pub use rewriting::{Failure, rewrite};
 pub use rows::{Counts, ItemRow, Name, WorkRow};
 pub use writing::write;

@@ -9,8 +9,7 @@ impl Name {
     pub fn in_text<'a>(self, text: &'a [u8]) -> &'a [u8]
         ensures { result.now ≡ bytes_at text.now self }
     {
-        let start = self.at.min(text.len());
-        let len = self.len.min(text.len() - start);
-        &text[start..start + len]
+        let rest = &text[self.at.min(text.len())..];
+        &rest[..self.len.min(rest.len())]
     }
 }

@@ -1,44 +1,49 @@
 //! Numbers in bytes, the lowest byte first.
-ghost use Rattle.std.specs.Prelude.{◌≡◌, ◌+◌, ◌≤◌, length, take, drop};
+ghost use Rattle.std.specs.Prelude.{◌≡◌, ℕ, ◌+◌, ◌≤◌, length, take, drop};
 ghost use Rattle.scheme_file.specs.Bytes.{le, value};
 
-/// The number in two bytes.
-pub fn word(bytes: &[u8], at: usize) -> u16
-    requires { at + 2 ≤ length bytes.now }
-    ensures value { result ≡ value (take 2 (drop at bytes.now)) }
-    ensures bytes { le 2 result ≡ take 2 (drop at bytes.now) }
-{
-    u16::from_le_bytes([bytes[at], bytes[at + 1]])
+/// A number of N bytes.
+pub trait Number<const N: usize>: Copy {
+    ghost amount: { Self → ℕ };
+
+    /// The number that the bytes make.
+    fn from_bytes(bytes: &[u8; N]) -> Self
+        ensures { amount result ≡ value bytes.now };
+
+    /// The bytes of the number.
+    fn to_bytes(self) -> [u8; N]
+        ensures { result ≡ le N (amount self) };
 }
 
-/// The number in eight bytes.
-pub fn long(bytes: &[u8], at: usize) -> u64
-    requires { at + 8 ≤ length bytes.now }
-    ensures value { result ≡ value (take 8 (drop at bytes.now)) }
-    ensures bytes { le 8 result ≡ take 8 (drop at bytes.now) }
-{
-    u64::from_le_bytes([
-        bytes[at],
-        bytes[at + 1],
-        bytes[at + 2],
-        bytes[at + 3],
-        bytes[at + 4],
-        bytes[at + 5],
-        bytes[at + 6],
-        bytes[at + 7],
-    ])
+impl Number<2> for u16 {
+    ghost amount = { λ x. x };
+
+    fn from_bytes(bytes: &[u8; 2]) -> u16 {
+        u16::from_le_bytes(*bytes)
+    }
+
+    fn to_bytes(self) -> [u8; 2] {
+        self.to_le_bytes()
+    }
 }
 
-/// The two bytes of a number.
-pub fn word_bytes(x: u16) -> [u8; 2]
-    ensures { result ≡ le 2 x }
-{
-    x.to_le_bytes()
+impl Number<8> for u64 {
+    ghost amount = { λ x. x };
+
+    fn from_bytes(bytes: &[u8; 8]) -> u64 {
+        u64::from_le_bytes(*bytes)
+    }
+
+    fn to_bytes(self) -> [u8; 8] {
+        self.to_le_bytes()
+    }
 }
 
-/// The eight bytes of a number.
-pub fn long_bytes(x: u64) -> [u8; 8]
-    ensures { result ≡ le 8 x }
+/// The number in the N bytes at an offset.
+pub fn number_at<const N: usize, T: Number<N>>(bytes: &[u8], at: usize) -> T
+    requires { at + N ≤ length bytes.now }
+    ensures value { T.amount result ≡ value (take N (drop at bytes.now)) }
+    ensures bytes { le N (T.amount result) ≡ take N (drop at bytes.now) }
 {
-    x.to_le_bytes()
+    T::from_bytes(bytes[at..].first_chunk().unwrap())
 }

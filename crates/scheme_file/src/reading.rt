@@ -10,8 +10,12 @@ use crate::filling::fill;
 use crate::rows::{Counts, ItemRow, WorkRow};
 use scheme::Scheme;
 
+/// How many bytes of an input are read: one more than a file can have, so that one too many is seen.
+pub const INPUT: u64 = 7_009;
+
 /// Reads a file: opens the scheme anew, enters its works, makes its items stand and be wanted, and fills the first rows. A fault leaves
 /// all as it was.
+// The lists are lent by the caller, each by itself.
 pub fn read(
     bytes: &[u8],
     scheme: &mut Scheme,
@@ -35,6 +39,11 @@ pub fn read(
             cause: Cause::Rows,
         });
     }
-    fill(bytes, counts, scheme, works, items);
+    fill(
+        bytes,
+        scheme,
+        &mut works[..counts.works],
+        &mut items[..counts.items],
+    );
     Ok(counts)
 }

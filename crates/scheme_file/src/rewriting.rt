@@ -12,7 +12,7 @@ use crate::writing::write;
 use scheme::Scheme;
 
 /// Why a file is not written back.
-#[derive(Clone, Copy)]
+#[derive(Clone, Copy, PartialEq, Eq, Debug)]
 pub enum Failure {
     /// The file is refused.
     Read(Fault),
@@ -37,6 +37,7 @@ impl From<Cause> for Failure {
 }
 
 /// Reads a file and writes it back: the same bytes. Answers their number.
+// The lists are lent by the caller, each by itself.
 pub fn rewrite(
     bytes: &[u8],
     scheme: &mut Scheme,
@@ -47,7 +48,8 @@ pub fn rewrite(
     ensures copied { MatchResult result (λ n. Copied bytes.now out.old out.new n) (λ f. Failed bytes.now (length works.old) (length items.old) out.old f × (out.new ≡ out.old)) }
     ensures left { Left result ((scheme.new ≡ scheme.old) × (works.new ≡ works.old) × (items.new ≡ items.old)) ((n : Counts) × Filled bytes.now (task_of scheme.new) works.old works.new items.old items.new n) }
 {
-    let Counts { works: w, items: i } = read(bytes, scheme, works, items)?;
-    let len = write(scheme, &works[0..w], &items[0..i], bytes, out)?;
-    Ok(len)
+    let counts = read(bytes, scheme, works, items)?;
+    let works = &works[..counts.works];
+    let items = &items[..counts.items];
+    Ok(write(scheme, works, items, bytes, out)?)
 }

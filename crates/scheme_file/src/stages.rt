@@ -5,9 +5,10 @@ ghost use Rattle.scheme_file.specs.Kinds.{Next, stage_after};
 use crate::kinds::Kind;
 
 /// How far a file has been read.
-#[derive(Clone, Copy, PartialEq)]
+#[derive(Clone, Copy, PartialEq, Eq, Default, Debug)]
 pub enum Stage {
     /// The head is to come.
+    #[default]
     Opening,
     /// An item, a work or the standing set can come.
     Items,

@@ -1,5 +1,5 @@
 //! Whether rows can be written.
-ghost use Rattle.std.specs.Prelude.{◌≡◌, ◌≤◌, map, length, MatchBool, MatchResult};
+ghost use Rattle.std.specs.Prelude.{◌≡◌, ◌+◌, ◌≤◌, map, length, MatchBool, MatchResult};
 ghost use Rattle.scheme_file.specs.declared.causes.Cause.TheVariants.{Rows};
 ghost use Rattle.scheme_file.specs.Contents.{Lies, SoundName, bytes_at, entries, item_in};
 ghost use Rattle.scheme_file.specs.Format.{bytes_of, item_record, work_record};
@@ -14,18 +14,19 @@ use scheme::Work;
 fn name_fits(text: &[u8], name: Name) -> bool
     ensures { MatchBool result (Lies text.now name × SoundName (bytes_at text.now name)) (Lies text.now name × SoundName (bytes_at text.now name) → ⊥) }
 {
-    let Name { at, len } = name;
-    if len < 1 || len > 40 || at > text.len() || text.len() - at < len {
-        return false;
-    }
-    readable(&text[at..at + len]).is_ok()
+    let bytes = name.in_text(text);
+    bytes.len() == name.len && (1..=40).contains(&name.len) && readable(bytes).is_ok()
 }
 
-/// Whether an item's row can be written where the least number allowed is `least`.
-fn item_fits(row: ItemRow, least: u8, text: &[u8]) -> bool
-    ensures { MatchBool result (ItemFits text.now least row) (ItemFits text.now least row → ⊥) }
+/// How many bytes an item's record has, if its row can be written where the least number allowed is `least`.
+fn item_size(row: ItemRow, least: u8, text: &[u8]) -> Result<usize, Cause>
+    ensures { MatchResult result (λ n. ItemFits text.now least row × (n ≡ 5 + row.name.len)) (λ c. (c ≡ Rows) × (ItemFits text.now least row → ⊥)) }
 {
-    row.number >= least && row.number <= 63 && name_fits(text, row.name)
+    if (least..=63).contains(&row.number) && name_fits(text, row.name) {
+        Ok(5 + row.name.len)
+    } else {
+        Err(Cause::Rows)
+    }
 }
 
 /// How many bytes the records of the items have.
@@ -35,23 +36,28 @@ pub fn items_size(items: &[ItemRow], text: &[u8]) -> Result<usize, Cause>
     let mut least = 0;
     let mut size = 0;
     for row in items {
-        if !item_fits(*row, least, text) {
-            return Err(Cause::Rows);
-        }
+        size += item_size(*row, least, text)?;
         least = row.number + 1;
-        size += 5 + row.name.len;
     }
     Ok(size)
 }
 
-/// Whether a work's row can be written.
-fn work_fits(row: WorkRow, text: &[u8]) -> bool
-    ensures { MatchBool result (WorkFits text.now row) (WorkFits text.now row → ⊥) }
+/// How many bytes a work's record has, if its row can be written.
+fn work_size(row: WorkRow, text: &[u8]) -> Result<usize, Cause>
+    ensures { MatchResult result (λ n. WorkFits text.now row × (n ≡ 24 + row.name.len)) (λ c. (c ≡ Rows) × (WorkFits text.now row → ⊥)) }
 {
-    row.pounds < 65536 && row.hours < 65536 && name_fits(text, row.name)
+    if u16::try_from(row.pounds).is_ok()
+        && u16::try_from(row.hours).is_ok()
+        && name_fits(text, row.name)
+    {
+        Ok(24 + row.name.len)
+    } else {
+        Err(Cause::Rows)
+    }
 }
 
 /// How many bytes the records of the works have.
+// One loop over both kinds of row would be no plainer: that over the items takes the least number along.
 pub fn works_size(works: &[Work], rows: &[WorkRow], text: &[u8]) -> Result<usize, Cause>
     requires { length works.now ≤ 64 }
     ensures { MatchResult result (λ n. WorksFit works.now rows.now text.now × (n ≡ length (bytes_of (map work_record (entries text.now works.now rows.now)))) × (n ≤ 4096)) (λ c. (c ≡ Rows) × (WorksFit works.now rows.now text.now → ⊥)) }
@@ -61,10 +67,7 @@ pub fn works_size(works: &[Work], rows: &[WorkRow], text: &[u8]) -> Result<usize
     }
     let mut size = 0;
     for row in rows {
-        if !work_fits(*row, text) {
-            return Err(Cause::Rows);
-        }
-        size += 24 + row.name.len;
+        size += work_size(*row, text)?;
     }
     Ok(size)
 }

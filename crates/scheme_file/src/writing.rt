@@ -5,12 +5,13 @@ ghost use Rattle.scheme_file.specs.Contents.{Refuses, Written};
 
 use crate::causes::Cause;
 use crate::kinds::Kind;
-use crate::putting::{put_items, put_mark, put_set, put_works};
+use crate::putting::Output;
 use crate::rows::{ItemRow, WorkRow};
 use crate::vetting::{items_size, works_size};
 use scheme::Scheme;
 
 /// Writes the file of a scheme, with one row for each work, and answers its length. The names lie in `text`. A refusal leaves `out` as it was.
+// The lists are lent by the caller, each by itself.
 pub fn write(
     scheme: &Scheme,
     works: &[WorkRow],
@@ -26,10 +27,12 @@ pub fn write(
     if out.len() < len {
         return Err(Cause::OutputShort);
     }
-    let at = put_mark(out, 0, Kind::Head);
-    let at = put_items(out, at, items, text);
-    let at = put_works(out, at, scheme.works(), works, text);
-    let at = put_set(out, at, Kind::Standing, scheme.standing());
-    let at = put_set(out, at, Kind::Wanted, scheme.wanted());
-    Ok(put_mark(out, at, Kind::End))
+    let mut output = Output::new(out, text);
+    output.mark(Kind::Head);
+    output.items(items);
+    output.works(scheme.works(), works);
+    output.set(Kind::Standing, scheme.standing());
+    output.set(Kind::Wanted, scheme.wanted());
+    output.mark(Kind::End);
+    Ok(len)
 }

@@ -1,5 +1,5 @@
--- The lower bound on numbers: a family of kept sets that share no free work, and the lowest work of each.
-use Rattle.std.proofs.Common.{◌≡◌, ℕ, ◌+◌, ◌^◌, ◌<◌, ◌≤◌, ◌⊎◌, List, IfSome, Some, None, Option, inl, inr, ⊎_elim, arith, pow_mono, MatchOption}
+-- The bound on the numbers.
+use Rattle.std.proofs.Common.{◌≡◌, ℕ, ◌+◌, ◌^◌, ◌<◌, ◌≤◌, ◌⊎◌, List, inl, inr, ⊎_elim, arith, pow_mono}
 use native.Mathlib.Decide.{dec_lt}
 use Rattle.sets.specs.declared.Set.{Set}
 use Rattle.sets.specs.Member.{Has, Members, Meet, Lowest}
@@ -9,16 +9,8 @@ use Rattle.tariff.specs.Amounts.{All}
 use Rattle.chooser.proofs.Parts.{put_back}
 use Rattle.chooser.proofs.UnionNumbers.{number_union, number_union_at_most}
 use Rattle.searcher.specs.declared.node.Node.{Node}
-use Rattle.searcher.specs.Costs.{First, Floor, Own}
-use Rattle.searcher.specs.Nodes.{Inside, One}
-use Rattle.searcher.proofs.Families.{one_used}
-use Rattle.searcher.proofs.Steps.{one_met}
-
-pub first_cases :
-    (n : Node) (rest one shared : Set) (r : Option ℕ) → Own n rest one shared →
-    MatchOption r ((k : ℕ) → Has shared k → ⊥) (λ w. Lowest shared w × (w < 64)) → IfSome r (First n rest one)
-first_cases n rest one shared None own h = tt
-first_cases n rest one shared (Some w) own h = (shared, own, h.0, h.1)
+use Rattle.searcher.specs.Costs.{Floor, Paired, within, tied, Picked}
+use Rattle.searcher.specs.Nodes.{Inside}
 
 -- a set with a work more has at most its number and the work's weight
 number_with : (s u : Set) (w : ℕ) → Members u (λ k. Has s k ⊎ ((k ≡ w) × (w < 64))) → u.bits ≤ 2 ^ w + s.bits
@@ -46,29 +38,20 @@ number_without s x w h m =
 lowest_le : (s : Set) (w k : ℕ) → Lowest s w → Has s k → w ≤ k
 lowest_le s w k low h = elim (dec_lt k w) [ yes lt ↦ absurd (low.first k lt h) | no ge ↦ omega arith ]
 
-module _ (sets : List Set) (n : Node) where
-  -- the floor is at most the number of any set with what a hitting set has of the chosen works and of those not in rest
-  pub record Flooring (floor rest : Set) : Type 0 where
-    pub below :
-        (o : Set) → Inside n o → All (Meet o) sets → (x : Set) →
-        ((k : ℕ) → Has o k → Has n.chosen k ⊎ (Has rest k → ⊥) → Has x k) → floor.bits ≤ x.bits
+-- where each work is tied to one that is not lower, the number is not higher
+paired_number : (P : ℕ → ℕ → Type 0) → ((w k : ℕ) → P w k → w ≤ k) → (a b : Set) → Paired P a b → a.bits ≤ b.bits
+paired_number P lower a b (within sub) = sub_le a b sub
+paired_number P lower more all (tied a b w k so_far p has adds takes) =
+    let weights : 2 ^ w ≤ 2 ^ k = pow_mono (lower w k p) in
+    let before = paired_number P lower a b so_far in
+    let whole = number_without all b k has takes in
+    let up = number_with a more w adds in
+    omega arith
 
-  pub flooring_none : Flooring n.chosen n.free
-  flooring_none = record { below = λ o inside m x has. sub_le n.chosen x (λ k h. has k (inside.chosen k h) (inl h)) }
-
-  pub flooring_more :
-      (floor more rest left one : Set) (w : ℕ) → Flooring floor rest → One sets one → First n rest one w →
-      Members more (λ k. Has floor k ⊎ ((k ≡ w) × (w < 64))) → Members left (λ k. Has rest k × (Has one k → ⊥)) → Flooring more left
-  flooring_more floor more rest left one w so_far kept (shared, own, low, lt) adds takes = record {
-    below = λ o inside m x has.
-        let used = one_used n rest left one shared own takes o x inside (one_met o sets one kept m) has in
-        let le : w ≤ used.work = lowest_le shared w used.work low used.mine in
-        let weights : 2 ^ w ≤ 2 ^ used.work = pow_mono le in
-        let before = so_far.below o inside m used.others used.still in
-        let whole = number_without x used.others used.work used.held used.parted in
-        let up = number_with floor more w adds in
-        omega arith;
-  }
-
-  pub flooring_floor : (floor rest : Set) → Flooring floor rest → Floor sets n floor
-  flooring_floor floor rest so_far o inside m = so_far.below o inside m o (λ k h e. h)
+-- what is picked is the lowest of some free works
+pub floor_picked :
+    (Pick : Set → ℕ → Type 0) (sets : List Set) (n : Node) (bound : Set) →
+    ((o : Set) → Inside n o → All (Meet o) sets → Paired (Picked Pick n) bound o) →
+    ((shared : Set) (w : ℕ) → Pick shared w → Lowest shared w) → Floor sets n bound
+floor_picked Pick sets n bound paired low o inside m =
+    paired_number (Picked Pick n) (λ w k p. lowest_le p.0 w k (low p.0 w p.2) p.3) bound o (paired o inside m)

@@ -1,5 +1,6 @@
-mod Families
+mod Bounding
 mod Floors
+mod Pairings
 mod Prices
 mod Steps
 mod Walks

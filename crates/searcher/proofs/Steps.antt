@@ -1,15 +1,19 @@
 -- What a step at one node leaves.
-use Rattle.std.proofs.Common.{◌≡◌, ℕ, zero, suc, ◌<◌, ◌⊎◌, List, [], ◌∷◌, ◌++◌, length, get_or, Some, None, Option, sym, refl, subst, inl, inr, ⊎_elim, arith}
+use Rattle.std.proofs.Common.{◌≡◌, ℕ, zero, suc, ◌<◌, Bool, true, false, not, filter, MatchBool, ◌⊎◌, List, [], ◌∷◌, length, get_or, Some, None, Option, option_map, IsSomeAnd, MatchOption, Bor, sym, refl, ap, ◌∙◌, subst, inl, inr, ⊎_elim, arith}
+use Rattle.std.proofs.lemmas.List.{nil_from_length}
+use Rattle.std.specs.Iterator.{ActsAsAt}
+use Rattle.std.specs.Iterator.Runs.{Run, WholeRun, SomeRun, EachRunFrom, AnyItem, IsFilterRun}
+use denote.Param.Members.{Mut}
+use lib.Count.{ones}
 use Rattle.sets.specs.declared.Set.{Set}
-use Rattle.sets.specs.Member.{Has, Members, Meet}
-use Rattle.sets.proofs.Laws.{has_or_not, count_without}
+use Rattle.sets.specs.Member.{Has, Members, Meet, Sub}
+use Rattle.sets.proofs.Laws.{has_or_not, meet_or_not, count_without}
 use Rattle.tariff.specs.Amounts.{Scale, All}
-use Rattle.tariff.proofs.Sums.{all_append}
 use Rattle.chooser.specs.Least.{Precedes}
 use Rattle.chooser.proofs.Parts.{same_or_not}
 use Rattle.chooser.proofs.Precedence.{precedes_sub, precedes_transitive, precedes_of_not}
 use Rattle.searcher.specs.declared.node.Node.{Node}
-use Rattle.searcher.specs.Nodes.{Of, One, Unmet, Best, Ahead, Better, Settled, Halved, Closed}
+use Rattle.searcher.specs.Nodes.{Inside, Of, One, Unmet, Best, Ahead, Better, Settled, Closed}
 
 -- ---- one of the kept sets
 
@@ -23,61 +27,109 @@ one_met o [] one h m = absurd h
 one_met o (x ∷ xs) one (inl e) m = subst (Meet o) (sym e) m.0
 one_met o (x ∷ xs) one (inr h) m = one_met o xs one h m.1
 
-one_front : (sets : List Set) (x one : Set) → One sets one → One (sets ++ (x ∷ [])) one
-one_front [] x one h = absurd h
-one_front (y ∷ sets) x one (inl e) = inl e
-one_front (y ∷ sets) x one (inr h) = inr (one_front sets x one h)
+-- ---- the kept sets that are not met
 
-one_last : (sets : List Set) (x one : Set) → one ≡ x → One (sets ++ (x ∷ [])) one
-one_last [] x one e = inl e
-one_last (y ∷ sets) x one e = inr (one_last sets x one e)
+abbrev pub apart : Set → Set → Bool
+apart a b = ⊎_elim (λ _. false) (λ _. true) (meet_or_not a b)
 
-pub unmet_met :
-    (sets : List Set) (chosen one : Set) (found : Option Set) → Unmet sets chosen found → Meet chosen one → Unmet (sets ++ (one ∷ [])) chosen found
-unmet_met sets chosen one None all met = all_append (Meet chosen) sets (one ∷ []) all (met, tt)
-unmet_met sets chosen one (Some s) (h, out) met = (one_front sets one s h, out)
+apart_cases : (a b : Set) → ((apart a b ≡ true) × (Meet a b → ⊥)) ⊎ ((apart a b ≡ false) × Meet a b)
+apart_cases a b = go (meet_or_not a b)
+  where
+    go : (c : Meet a b ⊎ (Meet a b → ⊥)) →
+        ((⊎_elim (λ _. false) (λ _. true) c ≡ true) × (Meet a b → ⊥)) ⊎ ((⊎_elim (λ _. false) (λ _. true) c ≡ false) × Meet a b)
+    go (inl m) = inr (refl, m)
+    go (inr not) = inl (refl, not)
 
-pub unmet_more :
-    (sets : List Set) (chosen one r : Set) (found : Option Set) → Unmet sets chosen found → (Meet chosen one → ⊥) → (r ≡ one) ⊎ (found ≡ Some r) →
-    Unmet (sets ++ (one ∷ [])) chosen (Some r)
-unmet_more sets chosen one r found so_far not (inl e) = (one_last sets one r e, λ m. not (subst (Meet chosen) e m))
-unmet_more sets chosen one r found so_far not (inr e) =
-    let here = subst (Unmet sets chosen) e so_far in (one_front sets one r here.0, here.1)
+pub apart_is : (a b : Set) (r : Bool) → MatchBool r (Meet a b) (Meet a b → ⊥) → not r ≡ apart a b
+apart_is a b true m = ⊎_elim (λ c. absurd (c.1 m)) (λ c. sym c.0) (apart_cases a b)
+apart_is a b false out = ⊎_elim (λ c. sym c.0) (λ c. absurd (out c.1)) (apart_cases a b)
+
+unmet_none : (chosen : Set) (sets : List Set) → filter (apart chosen) sets ≡ [] → All (Meet chosen) sets
+unmet_none chosen [] e = tt
+unmet_none chosen (x ∷ xs) e =
+    ⊎_elim
+    (λ c. let kept : filter (apart chosen) (x ∷ xs) ≡ x ∷ filter (apart chosen) xs = rw c.0 refl in absurd (cc))
+    (λ c. (c.1, unmet_none chosen xs (rw c.0 at e)))
+    (apart_cases chosen x)
+
+item_read : (o : Option Set) (m y : Set) → IsSomeAnd o (λ x. x ≡ m) → option_map (λ x. x) o ≡ Some y → m ≡ y
+item_read None m y h e = absurd h
+item_read (Some x) m y h e = sym h ∙ (cc)
+
+unmet_one :
+    (chosen : Set) (sets : List Set) (one : Set) → One (filter (apart chosen) sets) one → One sets one × (Meet chosen one → ⊥)
+unmet_one chosen [] one h = absurd h
+unmet_one chosen (x ∷ xs) one h =
+    ⊎_elim
+    (λ c.
+    ⊎_elim (λ e. (inl e, λ m. c.1 (subst (Meet chosen) e m)))
+    (λ z. let rest = unmet_one chosen xs one z in (inr rest.0, rest.1)) (rw c.0 at h))
+    (λ c. let rest = unmet_one chosen xs one (rw c.0 at h) in (inr rest.0, rest.1))
+    (apart_cases chosen x)
+
+-- what the narrowest of the kept sets that pass a test is
+pub narrowest :
+    {S T F : Type 0} {steps : S → Option Set → S → Type 0} {source : T → Option Set → T → Type 0} (g : Mut F (Bor Set × Unit {0}) Bool) (f : F)
+    (chosen : Set) (sets : List Set) (s : S) (it : T) (r : Option Set) (Rest : Run steps → Set → Type 0) →
+    WholeRun steps s (λ p. MatchOption r (p.len ≡ 0) (λ m. AnyItem p (λ x. x ≡ m) × Rest p m)) →
+    EachRunFrom steps s (λ p. SomeRun source it (λ q. IsFilterRun p q g f)) →
+    EachRunFrom source it (λ q. q.whole ≡ true → q.items ≡ sets) → ActsAsAt g f (apart chosen) → Unmet sets chosen r
+narrowest g f chosen sets s it r Rest (p, from, whole, picks) filtered all test =
+    let run = filtered p p.seen from in
+    let q = run.0 in
+    let same : p.items ≡ filter (apart chosen) sets =
+    run.2.4 (apart chosen) test ∙ ap (filter (apart chosen)) (all q q.seen run.1 (run.2.0 ∙ whole))
+    in
+    go r picks same
+  where
+    go : (r : Option Set) → MatchOption r (p.len ≡ 0) (λ m. AnyItem p (λ x. x ≡ m) × Rest p m) → p.items ≡ filter (apart chosen) sets →
+        Unmet sets chosen r
+    go None none same = unmet_none chosen sets (sym same ∙ nil_from_length p.items (sym p.long ∙ none))
+    go (Some m) ((k, lt, at), rest) same =
+        let read : m ≡ get_or p.items k m = item_read (p.at k) m (get_or p.items k m) at (p.reads k m lt) in
+        unmet_one chosen sets m
+        (subst (λ (xs : List Set). One xs m) same (subst (One p.items) (sym read) (one_at p.items k m (omega (arith, p.long, lt)))))
 
 -- ---- a split
 
-pub halved :
-    (n a b : Node) (w : ℕ) → Has n.free w → w < 64 → Members a.chosen (λ k. Has n.chosen k ⊎ ((k ≡ w) × (w < 64))) →
-    Members a.free (λ k. Has n.free k × (k ≡ w → ⊥)) → b.chosen ≡ n.chosen →
-    Members b.free (λ k. Has n.free k × (k ≡ w → ⊥)) → Halved n a b
-halved n a b w y lt more fewer same others = record {
-  covered = λ o inside.
-      ⊎_elim
-      (λ held. inl (record {
-        chosen = λ k h. ⊎_elim (inside.chosen k) (λ e. subst (Has o) (sym e.0) held) ((more k).0 h);
-        rest = λ k h.
-            ⊎_elim (λ e. inl ((more k).1 (inr (e, lt))))
-            (λ ne. ⊎_elim (λ z. inl ((more k).1 (inl z))) (λ z. inr ((fewer k).1 (z, ne))) (inside.rest k h)) (same_or_not k w);
-      }))
-      (λ out. inr (record {
-        chosen = λ k h. inside.chosen k (subst (λ (s : Set). Has s k) same h);
-        rest = λ k h.
-            ⊎_elim (λ z. inl (subst (λ (s : Set). Has s k) (sym same) z)) (λ z. inr ((others k).1 (z, λ e. out (subst (Has o) e h))))
-            (inside.rest k h);
-      }))
-      (has_or_not o w);
-  fewer = (count_without n.free a.free w y fewer, count_without n.free b.free w y others);
-  parts = λ works of. (
-    record {
-      chosen = λ k h. ⊎_elim (of.chosen k) (λ e. subst (Has works) (sym e.0) (of.free w y)) ((more k).0 h);
-      free = λ k h. of.free k ((fewer k).0 h).0;
-    },
-    record {
-      chosen = λ k h. of.chosen k (subst (λ (s : Set). Has s k) same h);
-      free = λ k h. of.free k ((others k).0 h).0;
-    },
-  );
-}
+module _ (n a : Node) (w : ℕ) (y : Has n.free w) (fewer : Members a.free (λ k. Has n.free k × (k ≡ w → ⊥))) where
+  -- a part has a free work less
+  pub part_smaller : ones a.free.bits < ones n.free.bits
+  part_smaller = omega (arith, count_without n.free a.free w y fewer)
+
+  part_free : (works : Set) → Of works n → Sub a.free works
+  part_free works of k h = of.free k ((fewer k).0 h).0
+
+  -- its works are among those that the node's are
+  pub part_with : Members a.chosen (λ k. Has n.chosen k ⊎ ((k ≡ w) × (w < 64))) → (works : Set) → Of works n → Of works a
+  part_with more works of = record {
+    chosen = λ k h. ⊎_elim (of.chosen k) (λ e. subst (Has works) (sym e.0) (of.free w y)) ((more k).0 h);
+    free = part_free works of;
+  }
+
+  pub part_without : a.chosen ≡ n.chosen → (works : Set) → Of works n → Of works a
+  part_without same works of = record { chosen = λ k h. of.chosen k (subst (λ (s : Set). Has s k) same h); free = part_free works of }
+
+-- each set of a node is in one of its parts
+pub covered :
+    (n a b : Node) (w : ℕ) → w < 64 → Members a.chosen (λ k. Has n.chosen k ⊎ ((k ≡ w) × (w < 64))) →
+    Members a.free (λ k. Has n.free k × (k ≡ w → ⊥)) → b.chosen ≡ n.chosen → Members b.free (λ k. Has n.free k × (k ≡ w → ⊥)) →
+    (o : Set) → Inside n o → Inside a o ⊎ Inside b o
+covered n a b w lt more fewer same others o inside =
+    ⊎_elim
+    (λ held. inl (record {
+      chosen = λ k h. ⊎_elim (inside.chosen k) (λ e. subst (Has o) (sym e.0) held) ((more k).0 h);
+      rest = λ k h.
+          ⊎_elim (λ e. inl ((more k).1 (inr (e, lt))))
+          (λ ne. ⊎_elim (λ z. inl ((more k).1 (inl z))) (λ z. inr ((fewer k).1 (z, ne))) (inside.rest k h)) (same_or_not k w);
+    }))
+    (λ out. inr (record {
+      chosen = λ k h. inside.chosen k (subst (λ (s : Set). Has s k) same h);
+      rest = λ k h.
+          ⊎_elim (λ z. inl (subst (λ (s : Set). Has s k) (sym same) z)) (λ z. inr ((others k).1 (z, λ e. out (subst (Has o) e h))))
+          (inside.rest k h);
+    }))
+    (has_or_not o w)
 
 module _ {V : Type 0} (t : Scale V) (prices : List V) (sets : List Set) (n : Node) where
   -- ---- a node that cannot better the best set
@@ -116,3 +168,13 @@ module _ {V : Type 0} (t : Scale V) (prices : List V) (sets : List Set) (n : Nod
       let met = one_met o sets one kept m in
       let k = met.0 in
       absurd (⊎_elim (λ y. unmet (k, y, met.2)) (λ y. empty k ((shared k).1 (met.2, y))) (inside.rest k met.1))
+
+  -- both its halves are done, one after the other
+  pub closed_halves :
+      (works : Set) (a b : Node) (best found after : Option Set) → ((o : Set) → Inside n o → Inside a o ⊎ Inside b o) → Closed t prices works sets a best found →
+      Closed t prices works sets b found after → Closed t prices works sets n best after
+  closed_halves works a b best found after covers first second = record {
+    settled = λ o inside m. ⊎_elim (λ h. second.keeps o (first.settled o h m)) (λ h. second.settled o h m) (covers o inside);
+    keeps = λ o h. second.keeps o (first.keeps o h);
+    found = second.found;
+  }

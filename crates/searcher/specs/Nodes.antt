@@ -1,12 +1,10 @@
 -- Nodes of the search, and what is known of the best set so far.
-use Rattle.std.specs.Prelude.{◌≡◌, ℕ, ◌+◌, ◌⊎◌, List, [], ◌∷◌, Some, None, Option, count_ones}
+use Rattle.std.specs.Prelude.{◌≡◌, ℕ, ◌⊎◌, List, [], ◌∷◌, Some, None, Option}
 use Rattle.sets.specs.declared.Set.{Set}
 use Rattle.sets.specs.Member.{Has, Meet, Sub}
 use Rattle.tariff.specs.Amounts.{Scale, All}
 use Rattle.chooser.specs.Least.{Precedes}
 use Rattle.searcher.specs.declared.node.Node.{Node}
-use Rattle.searcher.specs.declared.step.Step.{Step}
-use Rattle.searcher.specs.declared.step.Step.TheVariants.{Split, Done}
 
 -- a set of the part that a node stands for
 pub record Inside (n : Node) (o : Set) : Type 0 where
@@ -33,12 +31,6 @@ abbrev pub Best : Set → List Set → Option Set → Type 0
 Best works sets None = Unit {0}
 Best works sets (Some s) = Sub s works × All (Meet s) sets
 
--- a node in two, by a free work
-pub record Halved (n a b : Node) : Type 0 where
-  pub covered : (o : Set) → Inside n o → Inside a o ⊎ Inside b o
-  pub fewer : (count_ones a.free.bits + 1 ≡ count_ones n.free.bits) × (count_ones b.free.bits + 1 ≡ count_ones n.free.bits)
-  pub parts : (works : Set) → Of works n → Of works a × Of works b
-
 module _ {V : Type 0} (t : Scale V) (prices : List V) where
   -- the best set so far precedes another
   abbrev pub Ahead : Option Set → Set → Type 0
@@ -59,10 +51,6 @@ module _ {V : Type 0} (t : Scale V) (prices : List V) where
     pub settled : Settled sets after n
     pub keeps : (o : Set) → Ahead best o → Ahead after o
     pub found : Best works sets after
-
-  abbrev pub Stepped : Set → List Set → Node → Option Set → Step → Type 0
-  Stepped works sets n best (Split a b) = Halved n a b
-  Stepped works sets n best (Done after) = Closed works sets n best after
 
   -- the first of the sets of some works that meet the kept ones
   pub record Searched (works : Set) (sets : List Set) (r : Option Set) : Type 0 where

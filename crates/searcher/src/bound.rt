@@ -1,78 +1,46 @@
 //! Lower bounds on the costs and the numbers of the sets of a node. Both count kept sets that are not met and share no free work.
-ghost use Rattle.std.specs.Prelude.{IfSome};
+ghost use Rattle.std.specs.Prelude.{ℕ, ◌⊎◌};
 ghost use Rattle.sets.specs.declared.Set.{Set as Works};
+ghost use Rattle.sets.specs.Member.{Has, Meet};
+ghost use Rattle.tariff.specs.Amounts.{All};
 ghost use Rattle.chooser.specs.Least.{SetCapped};
-ghost use Rattle.searcher.specs.Costs.{Bounds, Counted, First, Floor, Own};
-ghost use Rattle.searcher.specs.Nodes.{Of};
+ghost use Rattle.searcher.specs.Costs.{Bounds, Floor, Paired, Picked, Taken};
+ghost use Rattle.searcher.specs.Nodes.{Inside};
 
-use crate::cheapest::cheapest;
+use crate::draw::Draw;
 use crate::node::Node;
 use sets::Set;
 use tariff::Tariff;
 
-/// Works whose cost no set of a node that meets the kept sets falls below: the chosen ones, and the cheapest free work of each of
-/// some kept sets that are not met and share no free work.
-pub(crate) fn lower_bound<T: Tariff>(prices: &[T::Value], sets: &[Set], node: Node) -> Set
-    ensures { (works : Works) → SetCapped T.Tariff.scale prices.now works → Of works node → Bounds T.Tariff.scale prices.now works sets.now node result }
-{
-    let mut bound = node.chosen;
-    let mut rest = node.free;
-    for one in sets {
-        if let Some(w) = cheapest_counted::<T>(prices, node, rest, *one) {
-            bound = bound.with(w);
-            rest = rest.minus(*one);
+impl<T: Tariff> Draw<'_, T> {
+    /// Works whose cost no set of a node that meets the kept sets falls below: the cheapest free work of each set that counts.
+    pub(crate) fn lower_bound(&self, node: Node) -> Set
+        ensures { SetCapped T.Tariff.scale self.now.terms.prices.now node.free → Bounds T.Tariff.scale self.now.terms.prices.now self.now.sets.now node result }
+    {
+        self.bound(node, |works| self.cheapest(works))
+    }
+
+    /// A set whose number no set of a node that meets the kept sets falls below: the lowest free work of each set that counts.
+    pub(crate) fn number_bound(&self, node: Node) -> Set
+        ensures { Floor self.now.sets.now node result }
+    {
+        self.bound(node, |works| works.lowest())
+    }
+
+    /// The chosen works, and a free work of each of some kept sets that are not met and share no free work.
+    fn bound<F: Fn(Set) -> Option<usize>>(&self, node: Node, pick: F) -> Set
+        requires { F.IsAlwaysCallable pick }
+        ensures taken { (k : ℕ) → Has result k → Has node.chosen k ⊎ Taken (λ s w. F.post pick s (Some w)) node k }
+        ensures paired { (o : Works) → Inside node o → All (Meet o) self.now.sets.now → Paired (Picked (λ s w. F.post pick s (Some w)) node) result o }
+    {
+        let mut bound = node.chosen;
+        let mut rest = node.free;
+        for one in self.sets {
+            if let Some(w) = node.own_works(rest, *one).and_then(&pick) {
+                bound = bound.with(w);
+                rest = rest.minus(*one);
+            }
         }
+        bound
     }
-    bound
-}
-
-/// A set whose number no set of a node that meets the kept sets falls below: the chosen works, and the lowest free work of each of
-/// some kept sets that are not met and share no free work.
-pub(crate) fn number_bound(sets: &[Set], node: Node) -> Set
-    ensures { Floor sets.now node result }
-{
-    let mut bound = node.chosen;
-    let mut rest = node.free;
-    for one in sets {
-        if let Some(w) = lowest_counted(node, rest, *one) {
-            bound = bound.with(w);
-            rest = rest.minus(*one);
-        }
-    }
-    bound
-}
-
-/// The cheapest free work of a kept set, if the set counts.
-fn cheapest_counted<T: Tariff>(
-    prices: &[T::Value],
-    node: Node,
-    rest: Set,
-    one: Set,
-) -> Option<usize>
-    ensures { IfSome result (Counted T.Tariff.scale prices.now node rest one) }
-{
-    let works = own_works(node, rest, one)?;
-    cheapest::<T>(prices, works)
-}
-
-/// The lowest free work of a kept set, if the set counts.
-fn lowest_counted(node: Node, rest: Set, one: Set) -> Option<usize>
-    ensures { IfSome result (First node rest one) }
-{
-    let works = own_works(node, rest, one)?;
-    works.lowest()
-}
-
-/// The free works of a kept set, if it counts: it is not met, and has no free works but those of `rest`.
-fn own_works(node: Node, rest: Set, one: Set) -> Option<Set>
-    ensures { IfSome result (Own node rest one) }
-{
-    let shared = one.intersection(node.free);
-    if node.chosen.intersects(one) {
-        return None;
-    }
-    if !shared.is_subset(rest) {
-        return None;
-    }
-    Some(shared)
 }

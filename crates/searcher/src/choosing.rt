@@ -1,18 +1,20 @@
 //! What a searcher does as a chooser.
 ghost use Rattle.std.proofs.Common.{rules};
 
-use crate::Searcher;
-use crate::search::least;
-use chooser::{Chooser, Full, candidates};
+use crate::draw::Draw;
+use crate::{ROOM, Searcher};
+use chooser::{Chooser, Full, Terms};
 use sets::Set;
 use tariff::Tariff;
 
 impl Chooser for Searcher {
-    const LIMIT: usize = 64;
+    ghost use Rattle.searcher.specs.declared.TheConstants.{ROOM};
 
-    ghost kept = { λ s. s.sets.items };
+    const LIMIT: usize = ROOM;
 
-    ghost room = { 64 };
+    ghost kept = { λ s. s.kept.sets.items };
+
+    ghost room = { ROOM };
 
     ghost small = { Prim.search rules };
 
@@ -23,31 +25,22 @@ impl Chooser for Searcher {
     }
 
     fn clear(&mut self) {
-        self.sets.clear();
+        self.kept.clear();
     }
 
     fn add(&mut self, set: Set) -> Result<(), Full> {
-        if self.sets.len() == Self::LIMIT {
-            return Err(Full);
-        }
-        self.sets.push_reserved(set);
-        Ok(())
+        self.kept.add(set)
     }
 
     fn count(&self) -> usize {
-        self.sets.len()
+        self.kept.count()
     }
 
     fn read(&self, place: usize) -> Option<Set> {
-        if place < self.sets.len() {
-            Some(self.sets[place])
-        } else {
-            None
-        }
+        self.kept.read(place)
     }
 
-    fn draw<T: Tariff>(&self, prices: &[T::Value], bars: Set) -> Option<Set> {
-        let sets = self.sets.as_slice();
-        least::<T>(prices, sets, candidates::<T>(prices, bars, sets)).best
+    fn draw<T: Tariff>(&self, terms: &Terms<'_, T>) -> Option<Set> {
+        Draw::new(*terms, self.kept.as_slice()).least().best
     }
 }

@@ -4,38 +4,35 @@
 //! - `making`: a searcher with places for 64 sets.
 //! - `measuring`: how much a draw does.
 //! - `choosing`: what it does as a chooser.
+//! - `draw`: what a draw goes by.
 //! - `search`: the walk over the nodes.
-//! - `step`: what is done at one node.
-//! - `branching`: the kept set and the work that a node is split on.
+//! - `branching`: the kept set that a node is split on.
 //! - `pruning`: the nodes that cannot better the best set so far.
 //! - `bound`: lower bounds on the costs and the numbers of the sets of a node.
 //! - `cheapest`: the cheapest work of a set.
 //! - `node`: a part of the sets of works.
-//! - `stack`: the nodes still to do.
 #![tactic(auto)]
-
-ghost use Rattle.std.specs.Prelude.{◌≤◌, vec_len, vec_capacity};
 
 mod bound;
 mod branching;
 mod cheapest;
 mod choosing;
+mod draw;
 mod making;
 mod measuring;
 mod node;
 mod pruning;
 mod search;
-mod stack;
-mod step;
 
-use sets::Set;
+use chooser::Kept;
+
+/// How many sets a searcher can keep.
+const ROOM: usize = 64;
 
 /// A chooser for up to 64 sets. A draw allocates nothing.
 #[derive(Drop)]
 pub struct Searcher {
-    sets: Vec<Set>,
-    ghost few: { vec_len sets ≤ 64 },
-    ghost reserved: { 64 ≤ vec_capacity sets },
+    kept: Kept<ROOM>,
 }
 
 #[cfg(test)]

@@ -1,6 +1,7 @@
 //! A part of the sets of works.
-ghost use Rattle.std.specs.Prelude.{◌≡◌, ◌<◌, ◌⊎◌, ◌≢◌};
+ghost use Rattle.std.specs.Prelude.{◌≡◌, ◌<◌, ◌⊎◌, ◌≢◌, IfSome};
 ghost use Rattle.sets.specs.Member.{Has, Members};
+ghost use Rattle.searcher.specs.Costs.{Own};
 
 use sets::Set;
 
@@ -29,8 +30,17 @@ impl Node {
         ensures free { Members result.free (λ k. Has self.free k × (k ≢ w)) }
     {
         Node {
-            chosen: self.chosen,
             free: self.free.without(w),
+            ..self
         }
+    }
+
+    /// The free works of a kept set, if it counts: it is not met, and has no free works but those of `rest`.
+    pub(crate) fn own_works(self, rest: Set, one: Set) -> Option<Set>
+        ensures { IfSome result (Own self rest one) }
+    {
+        let shared = one.intersection(self.free);
+        let counts = !self.chosen.intersects(one) && shared.is_subset(rest);
+        counts.then_some(shared)
     }
 }

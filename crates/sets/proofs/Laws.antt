@@ -1,34 +1,28 @@
 -- The laws of membership.
-use Rattle.std.proofs.Common.{◌≡◌, ℕ, zero, suc, ◌+◌, ◌-◌, ◌^◌, ◌<◌, ◌≤◌, ◌⊎◌, List, length, sym, refl, ap, subst, inl, inr, ⊎_elim, zero-add, arith, pow_pos}
-use native.Mathlib.Nat.{sub-zero}
-use native.Mathlib.Decide.{dec_lt}
+use Rattle.std.proofs.Common.{◌≡◌, ℕ, zero, suc, ◌+◌, ◌-◌, ◌^◌, ◌<◌, ◌≤◌, ◌⊎◌, refl, subst, inl, inr, ⊎_elim, w64, arith, pow_pos}
 use lib.Bits.{bit_and, bit_or}
 use lib.Count.{ones, ones-le}
-use Rattle.sets.specs.Listed.{Listed, In}
+use Rattle.std.specs.Int.{bit_at}
+use Rattle.std.proofs.lemmas.Nat.Bits.{bit_at-zero, bit_at_and, bit_at_or, bit_at_not, bit_at_above, bit_at_ones, bit_at_ones_above, bit_at-pow_same, bit_at-pow_other}
 use Rattle.sets.specs.declared.Set.{Set}
 use Rattle.sets.specs.Member.{Has, Members, Sub, Meet}
-use Rattle.sets.proofs.Bits.{bit, bit_of_and, bit_of_or, bit_none, bits_le, bit_high, bit_weight, bit_weight_other, bit_turned, below_pow, digits_listed, ones_fewer}
+use Rattle.sets.proofs.Bits.{bits_le, below_pow, ones_fewer}
+use Rattle.sets.proofs.Decided.{same_decided, both_decided, not_decided}
 
 -- ---- one set
 
 pub has_or_not : (s : Set) (k : ℕ) → Has s k ⊎ (Has s k → ⊥)
 unfolding Has
-has_or_not s k = go (bit s.bits k) (omega arith)
-  where
-    go : (d : ℕ) → d < 2 → (d ≡ 1) ⊎ (d ≡ 1 → ⊥)
-    go zero h = inr (λ e. omega arith)
-    go (suc zero) h = inl refl
-    go (suc (suc d)) h = absurd (omega arith)
+has_or_not s k = same_decided (bit_at s.bits k) 1
 
 pub none_has : (k : ℕ) → Has (record { bits = 0 }) k → ⊥
 unfolding Has
-none_has k h = omega (arith, bit_none k)
+none_has k h = omega (arith, bit_at-zero k)
 
 -- a member of a set whose number is below 2 ^ n is below n
 pub has_below : (n : ℕ) (s : Set) (k : ℕ) → s.bits < 2 ^ n → Has s k → k < n
 unfolding Has
-has_below n s k h e =
-    elim (dec_lt k n) [ yes lt ↦ lt | no ge ↦ absurd (omega (arith, bit_high n s.bits k h (omega arith))) ]
+has_below n s k h e = grind (arith, bit_at_above)
 
 -- some number bounds every member
 pub members_end : (s : Set) (k : ℕ) → Has s k → k < s.bits
@@ -36,51 +30,36 @@ members_end s k = has_below s.bits s k (below_pow s.bits)
 
 -- ---- two sets
 
-digits_le : (a b : Set) → Sub a b → (k : ℕ) → bit a.bits k ≤ bit b.bits k
-unfolding Has
-digits_le a b h k =
-    ⊎_elim (λ y. omega (arith, h k y)) (λ n. let low : bit a.bits k ≡ 0 = omega (arith, n) in omega arith) (has_or_not a k)
-
 -- a subset is not a greater number
 pub sub_le : (a b : Set) → Sub a b → a.bits ≤ b.bits
-sub_le a b h = bits_le a.bits b.bits (digits_le a b h)
+unfolding Has
+sub_le a b h =
+    bits_le a.bits b.bits (λ k.
+    ⊎_elim (λ y. omega (arith, h k y)) (λ n. let low : bit_at a.bits k ≡ 0 = omega (arith, n) in omega arith) (has_or_not a k))
 
 -- sets with the same members are the same
 pub same_set : (a b : Set) → Sub a b → Sub b a → a ≡ b
-same_set a b h g =
-    let e : a.bits ≡ b.bits = omega (arith, sub_le a b h, sub_le b a g) in ap (λ (n : ℕ). record { bits = n }) e
+same_set a b h g = grind (arith, sub_le)
 
 pub same_members : (P : ℕ → Type 0) (a b : Set) → Members a P → Members b P → a ≡ b
 same_members P a b h g = same_set a b (λ k y. (g k).1 ((h k).0 y)) (λ k y. (h k).1 ((g k).0 y))
 
 -- a proper subset is a smaller number
 pub proper_lt : (a b : Set) → Sub a b → (k : ℕ) → Has b k → (Has a k → ⊥) → a.bits < b.bits
-proper_lt a b h k in_b not_a =
-    elim (dec_lt a.bits b.bits) [
-      | yes lt ↦ lt
-      | no ge ↦
-          let e : b.bits ≡ a.bits = omega (arith, sub_le a b h) in
-          let P : Set → Type 0 = λ s. Has s k in
-          absurd (not_a (subst P (ap (λ (n : ℕ). record { bits = n }) e) in_b))
-    ]
+proper_lt a b h k in_b not_a = grind (arith, sub_le)
 
 -- ---- what can be decided
 
 -- the lowest number below n of which P holds, or none
-pub lowest_below : (P : ℕ → Type 0) → ((k : ℕ) → P k ⊎ (P k → ⊥)) → (n : ℕ) →
-    ((k : ℕ) × (k < n) × P k × ((j : ℕ) → j < k → P j → ⊥)) ⊎ ((k : ℕ) → k < n → P k → ⊥)
+abbrev pub LowestOrNone : (ℕ → Type 0) → ℕ → Type 0
+LowestOrNone P n = ((k : ℕ) × (k < n) × P k × ((j : ℕ) → j < k → P j → ⊥)) ⊎ ((k : ℕ) → k < n → P k → ⊥)
+
+lowest_more : (P : ℕ → Type 0) (n : ℕ) → P n ⊎ (P n → ⊥) → LowestOrNone P n → LowestOrNone P (suc n)
+lowest_more P n here before = grind arith
+
+pub lowest_below : (P : ℕ → Type 0) → ((k : ℕ) → P k ⊎ (P k → ⊥)) → (n : ℕ) → LowestOrNone P n
 lowest_below P decide zero = inr (λ k lt p. omega arith)
-lowest_below P decide (suc n) =
-    ⊎_elim (λ f. inl (f.0, omega (arith, f.1), f.2, f.3))
-    (λ none.
-    ⊎_elim (λ p. inl (n, omega arith, p, λ j lt. none j lt))
-    (λ not. inr (λ k lt p.
-    elim (dec_lt k n) [
-      | yes below ↦ none k below p
-      | no at ↦ let e : k ≡ n = omega arith in not (subst P e p)
-    ]))
-    (decide n))
-    (lowest_below P decide n)
+lowest_below P decide (suc n) = lowest_more P n (decide n) (lowest_below P decide n)
 
 -- a set has a lowest member, or none
 pub lowest_or_none : (s : Set) → ((k : ℕ) × Has s k × ((j : ℕ) → j < k → Has s j → ⊥)) ⊎ ((k : ℕ) → Has s k → ⊥)
@@ -102,92 +81,49 @@ pub sub_or_not : (a b : Set) →
 sub_or_not a b =
     ⊎_elim (λ f. inr (f.0, f.2.0, f.2.1, λ j lt h. ⊎_elim (λ y. y) (λ n. absurd (f.3 j lt (h, n))) (has_or_not b j)))
     (λ none. inl (λ k h. ⊎_elim (λ y. y) (λ n. absurd (none k (members_end a k h) (h, n))) (has_or_not b k)))
-    (lowest_below (λ k. Has a k × (Has b k → ⊥))
-    (λ k. ⊎_elim (λ h. ⊎_elim (λ y. inr (λ p. p.1 y)) (λ n. inl (h, n)) (has_or_not b k)) (λ n. inr (λ p. n p.0)) (has_or_not a k))
-    a.bits)
+    (lowest_below (λ k. Has a k × (Has b k → ⊥)) (λ k. both_decided (has_or_not a k) (not_decided (has_or_not b k))) a.bits)
 
 pub meet_or_not : (a b : Set) → Meet a b ⊎ (Meet a b → ⊥)
 meet_or_not a b =
     ⊎_elim (λ f. inl (f.0, f.2.0, f.2.1)) (λ none. inr (λ m. none m.0 (members_end a m.0 m.1) (m.1, m.2)))
-    (lowest_below (λ k. Has a k × Has b k)
-    (λ k. ⊎_elim (λ h. ⊎_elim (λ g. inl (h, g)) (λ n. inr (λ p. n p.1)) (has_or_not b k)) (λ n. inr (λ p. n p.0)) (has_or_not a k))
-    a.bits)
+    (lowest_below (λ k. Has a k × Has b k) (λ k. both_decided (has_or_not a k) (has_or_not b k)) a.bits)
 
 -- ---- sets made of others
 
 pub union_members : (a b : Set) → Members (record { bits = bit_or a.bits b.bits }) (λ k. Has a k ⊎ Has b k)
 unfolding Has
-union_members a b k = (
-  λ h. ⊎_elim inl (λ n. let low : bit a.bits k ≡ 0 = omega (arith, n) in inr (omega (arith, bit_of_or a.bits b.bits k))) (has_or_not a k),
-  ⊎_elim (λ h. omega (arith, bit_of_or a.bits b.bits k)) (λ h. omega (arith, bit_of_or a.bits b.bits k)),
-)
+union_members a b k = grind (arith, bit_at_or, has_or_not)
 
 pub intersection_members : (a b : Set) → Members (record { bits = bit_and a.bits b.bits }) (λ k. Has a k × Has b k)
 unfolding Has
-intersection_members a b k = (
-  λ h. (omega (arith, bit_of_and a.bits b.bits k), omega (arith, bit_of_and a.bits b.bits k)),
-  λ h. omega (arith, bit_of_and a.bits b.bits k),
-)
+intersection_members a b k = grind (arith, bit_at_and)
 
--- the numbers below n that a set lacks
-pub rest_members : (n : ℕ) (a : Set) → a.bits < 2 ^ n → Members (record { bits = 2 ^ n - 1 - a.bits }) (λ k. (k < n) × (Has a k → ⊥))
+pub minus_members : (a b : Set) → a.bits < 2 ^ 64 → b.bits < 2 ^ 64 →
+    Members (record { bits = bit_and a.bits (2 ^ 64 - 1 - b.bits) }) (λ k. Has a k × (Has b k → ⊥))
 unfolding Has
-rest_members n a h k =
-    elim (dec_lt k n) [
-      | yes lt ↦ (
-        λ y. (lt, λ e. omega (arith, bit_turned n a.bits k h lt)),
-        λ p. let low : bit a.bits k ≡ 0 = omega (arith, p.1) in omega (arith, bit_turned n a.bits k h lt),
-      )
-      | no ge ↦ (
-        λ y. absurd (omega (arith, bit_high n (2 ^ n - 1 - a.bits) k (omega arith) (omega arith))),
-        λ p. absurd (ge p.0),
-      )
-    ]
-
-pub minus_members : (n : ℕ) (a b : Set) → a.bits < 2 ^ n → b.bits < 2 ^ n →
-    Members (record { bits = bit_and a.bits (2 ^ n - 1 - b.bits) }) (λ k. Has a k × (Has b k → ⊥))
-minus_members n a b ha hb k =
-    let both = intersection_members a (record { bits = 2 ^ n - 1 - b.bits }) k in
-    let rest = rest_members n b hb k in (
-      λ h. ((both.0 h).0, (rest.0 (both.0 h).1).1),
-      λ p. both.1 (p.0, rest.1 (has_below n a k ha p.0, p.1)),
+minus_members a b ha hb k =
+    let both = bit_at_and a.bits (2 ^ 64 - 1 - b.bits) k in
+    let other : k < 64 → bit_at (2 ^ 64 - 1 - b.bits) k ≡ 1 - bit_at b.bits k = bit_at_not w64 b.bits k hb in (
+      λ h. let lt = has_below 64 a k ha (omega (arith, both)) in (omega (arith, both), λ y. omega (arith, both, other lt)),
+      λ p. let low : bit_at b.bits k ≡ 0 = omega (arith, p.1) in omega (arith, both, other (has_below 64 a k ha p.0)),
     )
 
 -- the set with the one member k
 pub only_members : (k : ℕ) → Members (record { bits = 2 ^ k }) (λ j. j ≡ k)
 unfolding Has
-only_members k j = (
-  λ h. elim (dec_lt j k) [
-    | yes lt ↦ absurd (omega (arith, bit_weight_other k j (λ e. omega arith)))
-    | no ge ↦ elim (dec_lt k j) [
-      | yes gt ↦ absurd (omega (arith, bit_weight_other k j (λ e. omega arith)))
-      | no le ↦ omega arith
-    ]
-  ],
-  λ e. subst (λ (i : ℕ). bit (2 ^ k) i ≡ 1) (sym e) (bit_weight k),
-)
+only_members k j = grind (arith, bit_at-pow_other, bit_at-pow_same)
 
 -- A set of the numbers below n of which P holds, taken to m, one more: with n, or as it is.
 module _ (P : ℕ → Type 0) (n m : ℕ) (s : Set) (next : m ≡ n + 1) (below : Members s (λ k. (k < n) × P k)) where
   pub filled_with : (t : Set) → P n → Members t (λ k. Has s k ⊎ (k ≡ n)) → Members t (λ k. (k < m) × P k)
-  filled_with t here adds k = (
-    λ h. ⊎_elim (λ y. let p = (below k).0 y in (omega (arith, p.0), p.1)) (λ e. (omega arith, subst P (sym e) here)) ((adds k).0 h),
-    λ p. elim (dec_lt k n)
-        [ yes lt ↦ (adds k).1 (inl ((below k).1 (lt, p.1))) | no ge ↦ (adds k).1 (inr (omega (arith, p.0))) ],
-  )
+  filled_with t here adds k = grind arith
 
   pub filled_over : (P n → ⊥) → Members s (λ k. (k < m) × P k)
-  filled_over not k = (
-    λ h. let p = (below k).0 h in (omega (arith, p.0), p.1),
-    λ p. elim (dec_lt k n) [
-      | yes lt ↦ (below k).1 (lt, p.1)
-      | no ge ↦ let e : k ≡ n = omega (arith, p.0) in absurd (not (subst P e p.1))
-    ],
-  )
+  filled_over not k = grind arith
 
 -- an added number that can be a member is one
 pub added_member : (s t : Set) (k : ℕ) → k < 64 → Members t (λ j. Has s j ⊎ ((j ≡ k) × (k < 64))) → Members t (λ j. Has s j ⊎ (j ≡ k))
-added_member s t k lt m j = (λ h. ⊎_elim inl (λ p. inr p.0) ((m j).0 h), ⊎_elim (λ h. (m j).1 (inl h)) (λ e. (m j).1 (inr (e, lt))))
+added_member s t k lt m j = grind arith
 
 -- There is a set of the numbers below n of which P holds.
 pub set_of : (P : ℕ → Type 0) → ((k : ℕ) → P k ⊎ (P k → ⊥)) → (n : ℕ) → (s : Set) × Members s (λ k. (k < n) × P k)
@@ -206,23 +142,10 @@ set_of P decide (suc n) =
 
 -- the set of the numbers below n
 pub below_members : (n : ℕ) → Members (record { bits = 2 ^ n - 1 }) (λ k. k < n)
-below_members n k =
-    let m = rest_members n (record { bits = 0 }) (pow_pos n) k in
-    rw (sym (sub-zero (2 ^ n - 1))) (λ h. (m.0 h).0, λ lt. m.1 (lt, none_has k))
-
--- ---- a set as a list
-
--- the members of a set whose number is below 2 ^ w, in rising order: as many as the number has ones
-pub listed : (w : ℕ) (s : Set) → s.bits < 2 ^ w → (xs : List ℕ) × Listed s xs × (ones s.bits ≡ length xs)
 unfolding Has
-listed w s h =
-    let d = digits_listed w s.bits 0 h in
-    let whole : (k : ℕ) → Has s k → In k d.0 = λ k y. rw zero-add at (d.1.whole k y) in
-    let sound : (k : ℕ) → In k d.0 → Has s k = λ k y. rw sub-zero at (d.1.sound k y).1 in (
-      d.0,
-      record { members = λ k. (whole k, sound k); rising = d.1.rising },
-      sym d.1.count,
-    )
+below_members n k = grind (arith, bit_at_ones_above, bit_at_ones)
+
+-- ---- how many members a set has
 
 -- a set whose members lie below n has at most n
 pub count_within : (n : ℕ) (s : Set) → ((k : ℕ) → Has s k → k < n) → ones s.bits ≤ n
@@ -236,13 +159,8 @@ pub count_without : (s t : Set) (k : ℕ) → Has s k → Members t (λ j. Has s
 unfolding Has
 count_without s t k y m = ones_fewer k s.bits t.bits y unset others
   where
-    unset : bit t.bits k ≡ 0
+    unset : bit_at t.bits k ≡ 0
     unset = ⊎_elim (λ z. absurd (((m k).0 z).1 refl)) (λ not. omega (arith, not)) (has_or_not t k)
 
-    others : (j : ℕ) → (j ≡ k → ⊥) → bit t.bits j ≡ bit s.bits j
-    others j ne =
-        ⊎_elim (λ z. let low = (m j).1 (z, ne) in omega arith)
-        (λ not.
-        let out : Has t j → ⊥ = λ z. not ((m j).0 z).0 in
-        omega (arith, not, out))
-        (has_or_not s j)
+    others : (j : ℕ) → (j ≡ k → ⊥) → bit_at t.bits j ≡ bit_at s.bits j
+    others j ne = grind arith

@@ -1,13 +1,15 @@
 -- The members of a set as a list.
-use Rattle.std.proofs.Common.{◌≡◌, ℕ, zero, suc, ◌+◌, ◌^◌, ◌<◌, ◌≤◌, Bool, true, false, cond, List, [], ◌∷◌, Some, filter, sym, refl, ap, ◌∙◌, inl, inr, ⊎_elim, arith, eq-eqb}
+use Rattle.std.proofs.Common.{◌≡◌, ℕ, zero, suc, ◌+◌, ◌^◌, ◌<◌, ◌≤◌, Bool, true, false, cond, List, [], ◌∷◌, length, Some, filter, sym, refl, ap, ◌∙◌, inl, inr, ⊎_elim, arith, eq-eqb}
 use native.Mathlib.Decide.{dec_lt}
+use lib.Count.{ones}
 use Rattle.std.proofs.lemmas.Bool.{eqb-true}
 use Rattle.std.specs.List.{range_with_len}
 use Rattle.sets.specs.declared.Set.{Set}
 use Rattle.sets.specs.Listed.{In, Rising, Listed, has_bit, members}
 use Rattle.sets.specs.Member.{Has}
 use Rattle.sets.specs.Steps.{Next}
-use Rattle.sets.proofs.Laws.{has_below}
+use Rattle.sets.proofs.Laws.{has_below, proper_lt, lowest_or_none, count_within, count_without}
+use Rattle.sets.proofs.Parts.{less_one}
 
 -- ---- what a test keeps of a list
 
@@ -133,3 +135,19 @@ members_next s t k (low, lt, others) =
     from : (j : ℕ) → In j (k ∷ members t) → In j (members s)
     from j (inl e) = rw e (members_whole s k low.member lt)
     from j (inr y) = let p = members_sound t j y in members_whole s j ((others j).0 p.0).0 p.1
+
+-- a set has as many members as its number has ones
+pub count_members : (s : Set) → s.bits < 2 ^ 64 → ones s.bits ≡ length (members s)
+count_members s h = go (suc s.bits) s h (omega arith)
+  where
+    go : (n : ℕ) (s : Set) → s.bits < 2 ^ 64 → s.bits < n → ones s.bits ≡ length (members s)
+    go zero s h room = absurd (omega arith)
+    go (suc n) s h room =
+        ⊎_elim
+        (λ f.
+        let t = less_one s f.0 in
+        let smaller : t.0.bits < s.bits = proper_lt t.0 s (λ j y. ((t.1 j).0 y).0) f.0 f.1 (λ y. ((t.1 f.0).0 y).1 refl) in
+        let next = members_next s t.0 f.0 (record { member = f.1; first = f.2 }, has_below 64 s f.0 h f.1, t.1) in
+        omega (arith, count_without s t.0 f.0 f.1 t.1, go n t.0 (omega arith) (omega arith), ap length next))
+        (λ none. omega (arith, count_within 0 s (λ k y. absurd (none k y)), ap length (members_none s none)))
+        (lowest_or_none s)

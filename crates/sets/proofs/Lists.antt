@@ -1,7 +1,8 @@
 -- Elements of lists of numbers.
-use Rattle.std.proofs.Common.{◌≡◌, ℕ, ◌+◌, ◌<◌, ◌⊎◌, List, [], ◌∷◌, ◌++◌, length, get_or, take, sym, subst, inl, inr, ⊎_elim}
-use Rattle.std.proofs.lemmas.List.{take_more}
+use Rattle.std.proofs.Common.{◌≡◌, ℕ, ◌<◌, ◌⊎◌, List, [], ◌∷◌, ◌++◌, inl, inr, ⊎_elim, arith}
+use Rattle.sets.specs.declared.Set.{Set}
 use Rattle.sets.specs.Listed.{In}
+use Rattle.sets.specs.Member.{Has, Members}
 
 -- an element of one list after another is one of either
 pub in_append : (k : ℕ) (xs ys : List ℕ) → In k (xs ++ ys) → In k xs ⊎ In k ys
@@ -18,13 +19,14 @@ pub in_back : (k : ℕ) (xs ys : List ℕ) → In k ys → In k (xs ++ ys)
 in_back k [] ys h = h
 in_back k (x ∷ xs) ys h = inr (in_back k xs ys h)
 
--- the elements of a front that is one longer
-pub in_more : (k : ℕ) (xs : List ℕ) (i : ℕ) → i < length xs →
-    (In k (take (i + 1) xs) → In k (take i xs) ⊎ (k ≡ get_or xs i 0)) × (In k (take i xs) ⊎ (k ≡ get_or xs i 0) → In k (take (i + 1) xs))
-in_more k xs i lt =
-    let Elem : List ℕ → Type 0 = λ ys. In k ys in
-    let e = take_more xs i 0 lt in (
-      λ h. ⊎_elim inl (⊎_elim inr (λ z. absurd z)) (in_append k (take i xs) (get_or xs i 0 ∷ []) (subst Elem e h)),
-      λ h. subst Elem (sym e)
-          (⊎_elim (in_front k (take i xs) (get_or xs i 0 ∷ [])) (λ y. in_back k (take i xs) (get_or xs i 0 ∷ []) (inl y)) h),
-    )
+-- a set of the elements of a list that are below m, with one element more
+pub set_more :
+    (ys : List ℕ) (x m : ℕ) (s t : Set) →
+    Members s (λ k. In k ys × (k < m)) →
+    Members t (λ k. Has s k ⊎ ((k ≡ x) × (x < m))) →
+    Members t (λ k. In k (ys ++ (x ∷ [])) × (k < m))
+set_more ys x m s t before adds k =
+    let parted = in_append k ys (x ∷ []) in
+    let front = in_front k ys (x ∷ []) in
+    let back = in_back k ys (x ∷ []) in
+    grind (arith, before, adds)

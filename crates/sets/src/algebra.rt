@@ -16,12 +16,11 @@ impl Set {
     pub fn without(self, k: usize) -> Set
         ensures { Members result (λ j. Has self j × (j ≢ k)) }
     {
-        Set {
-            bits: self.bits & !Set::only(k).bits,
-        }
+        self.minus(Set::only(k))
     }
 
     /// The members of either set.
+    #[tactic(auto, using(crate::proofs::Laws::union_members))]
     pub fn union(self, other: Set) -> Set
         ensures { Members result (λ k. Has self k ⊎ Has other k) }
     {
@@ -31,6 +30,7 @@ impl Set {
     }
 
     /// The members that both sets have.
+    #[tactic(auto, using(crate::proofs::Laws::intersection_members))]
     pub fn intersection(self, other: Set) -> Set
         ensures { Members result (λ k. Has self k × Has other k) }
     {
@@ -40,6 +40,7 @@ impl Set {
     }
 
     /// The members that `other` lacks.
+    #[tactic(auto, using(crate::proofs::Laws::minus_members))]
     pub fn minus(self, other: Set) -> Set
         ensures { Members result (λ k. Has self k × (Has other k → ⊥)) }
     {
@@ -56,6 +57,7 @@ impl Set {
     }
 
     /// Whether each member is one of `other`.
+    #[tactic(auto, using(crate::proofs::Laws::has_or_not))]
     pub fn is_subset(self, other: Set) -> bool
         ensures { MatchBool result (Sub self other) ((k : ℕ) × Has self k × (Has other k → ⊥)) }
     {

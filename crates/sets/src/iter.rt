@@ -27,6 +27,7 @@ impl Iterator for SetIter {
 
     ghost remaining = { λ s. at_most s.rest.bits };
 
+    #[tactic(auto, using(crate::proofs::Laws::proper_lt))]
     fn next(&mut self) -> Option<usize> {
         let k = self.rest.lowest()?;
         self.rest = self.rest.without(k);

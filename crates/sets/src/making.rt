@@ -10,11 +10,7 @@ impl Set {
     pub fn of(numbers: &[usize]) -> Set
         ensures { Members result (λ k. In k numbers.now × (k < 64)) }
     {
-        let mut set = Set::empty();
-        for k in numbers {
-            set = set.with(*k);
-        }
-        set
+        numbers.iter().fold(Set::empty(), |set, k| set.with(*k))
     }
 
     /// The set with the one member `k`, or the empty one for a number above 63, which cannot be a member.

@@ -22,11 +22,11 @@ impl Set {
     }
 
     /// Whether `k` is a member.
+    #[tactic(auto, using(std::proofs::lemmas::Nat::Bits::shr_and_one), unfolding(crate::specs::Member::Has))]
     pub fn contains(self, k: usize) -> bool
         ensures { MatchBool result (Has self k) (Has self k → ⊥) }
     {
-        let bits = self.bits;
-        k < Set::LIMIT && bits >> k & 1 == 1
+        k < Set::LIMIT && self.bits >> k & 1 == 1
     }
 
     /// The lowest member.

@@ -16,6 +16,7 @@ impl Set {
     }
 
     /// The set whose number is `bits`.
+    // Named, as `bits` is, like the conversions of floats: a `From` would hide that a number stands for members.
     pub fn from_bits(bits: u64) -> Set
         ensures { result.bits ≡ bits }
     {

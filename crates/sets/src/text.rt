@@ -10,6 +10,7 @@ impl fmt::Display for Set {
     ghost output = { λ s. Some (text_of s) };
 
     fn fmt<W: fmt::Write>(&self, f: &mut fmt::Formatter<W>) -> fmt::Result {
+        // `debug_set` would put a space behind each comma.
         f.write_str("{")?;
         let mut between = "";
         for k in self.iter() {

@@ -1,3 +1,5 @@
 mod BestChoices
+mod Decided
 mod Drawing
+mod Folds
 mod Subsets

@@ -40,3 +40,9 @@ module _ {V : Type 0} (t : Scale V) (prices : List V) where
     -- the table has the best choices for the subsets whose numbers are below m
     abbrev pub Filled : List Set → ℕ → Type 0
     Filled table m = (k : ℕ) → k < m → Best (record { bits = k }) (slice_index_or table k none)
+
+    -- r is the first of a and of a set that has a work and the table's choice for the kept sets of a subset that lack it
+    pub record Turn (table : List Set) (subset a : Set) (w : ℕ) (r : Set) : Type 0 where
+      pub other : Set
+      pub joins : w < 64 → Joins sets table subset w other
+      pub earlier : Sub a free → Sub other free → Earlier a other r

@@ -1,18 +1,20 @@
 //! What every chooser promises.
 ghost use Rattle.std.proofs.Common.{rules};
 
-use crate::Tabler;
-use crate::table::{least, meets_all};
-use chooser::{Chooser, Full, candidates};
+use crate::table::{Draw, meets_all};
+use crate::{ROOM, Tabler};
+use chooser::{Chooser, Full, Terms};
 use sets::Set;
 use tariff::Tariff;
 
 impl Chooser for Tabler {
-    const LIMIT: usize = 12;
+    ghost use Rattle.tabler.specs.declared.TheConstants.{ROOM};
 
-    ghost kept = { λ c. c.sets.items };
+    const LIMIT: usize = ROOM;
 
-    ghost room = { 12 };
+    ghost kept = { λ c. c.kept.sets.items };
+
+    ghost room = { ROOM };
 
     ghost small = { Prim.search rules };
 
@@ -23,30 +25,31 @@ impl Chooser for Tabler {
     }
 
     fn clear(&mut self) {
-        self.sets.clear();
+        self.kept.clear();
     }
 
     fn add(&mut self, set: Set) -> Result<(), Full> {
-        if self.count() == self.capacity() {
-            return Err(Full);
-        }
-        self.sets.push_reserved(set);
-        Ok(())
+        self.kept.add(set)
     }
 
     fn count(&self) -> usize {
-        self.sets.len()
+        self.kept.count()
     }
 
     fn read(&self, place: usize) -> Option<Set> {
-        self.sets.get(place).copied()
+        self.kept.read(place)
     }
 
-    fn draw<T: Tariff>(&self, prices: &[T::Value], bars: Set) -> Option<Set> {
-        let sets = self.sets.as_slice();
-        let free = candidates::<T>(prices, bars, sets);
+    fn draw<T: Tariff>(&self, terms: &Terms<'_, T>) -> Option<Set> {
+        let sets = self.kept.as_slice();
+        let free = terms.candidates(sets);
         if meets_all(free, sets) {
-            Some(least::<T>(prices, free, sets))
+            let draw = Draw {
+                terms: *terms,
+                free,
+                sets,
+            };
+            Some(draw.least())
         } else {
             None
         }

@@ -1,91 +1,65 @@
 //! One entry of the table, from those before it.
 ghost use Rattle.std.specs.Prelude.{◌^◌, ◌<◌, ◌≤◌, length};
-ghost use Rattle.sets.specs.Member.{Has};
-ghost use Rattle.chooser.specs.Least.{SetCapped};
-ghost use Rattle.tabler.specs.Table.{Best, Earlier, Filled, Joins, Met, Touched, Unmet};
+ghost use Rattle.tabler.specs.Table.{Best, Filled, Joins, Turn, Unmet};
 
-use chooser::precedes;
+use crate::table::Draw;
 use sets::Set;
 use tariff::Tariff;
 
-/// The best choice for the subset of the sets whose number is `m`, where the table holds those for lower numbers. `free` meets each
-/// set of the subset.
-pub(crate) fn entry<T: Tariff>(
-    prices: &[T::Value],
-    free: Set,
-    sets: &[Set],
-    table: &[Set],
-    m: usize,
-) -> Set
-    requires capped { SetCapped T.Tariff.scale prices.now free }
-    requires met { Met sets.now (record { bits = m }) free }
-    requires few { m < 2 ^ length sets.now }
-    requires long { m ≤ length table.now }
-    requires filled { Filled T.Tariff.scale prices.now free sets.now table.now m }
-    ensures { Best T.Tariff.scale prices.now free sets.now (record { bits = m }) result }
-{
-    let subset = Set::from_bits(m as u64);
-    match subset.lowest() {
-        Some(place) => pick::<T>(prices, free, sets, table, subset, place),
-        None => Set::empty(),
-    }
+/// A subset of the sets of a draw, and the table, which holds the best choices for the subsets with lower numbers.
+#[derive(Drop)]
+pub(crate) struct Entry<'a, T: Tariff> {
+    pub(crate) draw: &'a Draw<'a, T>,
+    pub(crate) table: &'a [Set],
+    pub(crate) subset: Set,
+    ghost low: { subset.bits < 2 ^ length draw.now.sets.now },
+    ghost long: { subset.bits < length table.now },
+    ghost filled: { ∥ Filled T.Tariff.scale draw.now.terms.prices.now draw.now.free draw.now.sets.now table.now subset.bits ∥₁ },
 }
 
-/// The best choice for a subset of the sets, one of which is at `place`: the choice has a work of that set, and with it the best choice
-/// for the sets that lack the work.
-fn pick<T: Tariff>(
-    prices: &[T::Value],
-    free: Set,
-    sets: &[Set],
-    table: &[Set],
-    subset: Set,
-    place: usize,
-) -> Set
-    requires capped { SetCapped T.Tariff.scale prices.now free }
-    requires met { Met sets.now subset free }
-    requires long { subset.bits ≤ length table.now }
-    requires filled { Filled T.Tariff.scale prices.now free sets.now table.now subset.bits }
-    requires member { Has subset place }
-    requires held { place < length sets.now }
-    ensures { Best T.Tariff.scale prices.now free sets.now subset result }
-{
-    let works = free.intersection(sets[place]);
-    let mut best = free;
-    'pick: for w in works.iter() {
-        let other = joined(sets, table, subset, w);
-        best = earlier::<T>(prices, best, other);
-    }
-    best
-}
-
-/// The first of two sets of works, neither of which has a price above the ceiling.
-fn earlier<T: Tariff>(prices: &[T::Value], a: Set, b: Set) -> Set
-    requires { (SetCapped T.Tariff.scale prices.now a) × (SetCapped T.Tariff.scale prices.now b) }
-    ensures { Earlier T.Tariff.scale prices.now a b result }
-{
-    if precedes::<T>(prices, a, b) { a } else { b }
-}
-
-/// A work, with the table's choice for the sets of a subset that lack the work; some set of it has the work.
-fn joined(sets: &[Set], table: &[Set], subset: Set, w: usize) -> Set
-    requires small { w < 64 }
-    requires long { subset.bits ≤ length table.now }
-    requires some { Touched sets.now subset w }
-    ensures { Joins sets.now table.now subset w result }
-{
-    let left = unmet(sets, subset, w);
-    table[left.bits() as usize].with(w)
-}
-
-/// The places of a subset at which the set lacks a work.
-fn unmet(sets: &[Set], subset: Set, w: usize) -> Set
-    ensures { Unmet sets.now subset w result }
-{
-    let mut left = subset;
-    'each: for (place, one) in sets.iter().enumerate() {
-        if one.contains(w) {
-            left = left.without(place);
+impl<T: Tariff> Entry<'_, T> {
+    /// The best choice for the subset: where the subset has a place, the choice has a work of the set there, and with it the best choice
+    /// for the sets that lack the work.
+    pub(crate) fn best(&self) -> Set
+        ensures { Best T.Tariff.scale self.now.draw.now.terms.prices.now self.now.draw.now.free self.now.draw.now.sets.now self.now.subset result }
+    {
+        match self.subset.lowest() {
+            Some(place) => {
+                let works = self.draw.free.intersection(self.draw.sets[place]);
+                works
+                    .iter()
+                    .fold(self.draw.free, |best, w| self.tried(best, w))
+            }
+            None => Set::empty(),
         }
     }
-    left
+
+    /// The first of a choice for the subset and of the one that has a work.
+    fn tried(&self, best: Set, w: usize) -> Set
+        ensures { Turn T.Tariff.scale self.now.draw.now.terms.prices.now self.now.draw.now.free self.now.draw.now.sets.now self.now.table.now self.now.subset best w result }
+    {
+        self.draw.earlier(best, self.joined(w))
+    }
+
+    /// A work, with the table's choice for the sets of the subset that lack the work.
+    fn joined(&self, w: usize) -> Set
+        ensures { w < 64 → Joins self.now.draw.now.sets.now self.now.table.now self.now.subset w result }
+    {
+        let left = self.unmet(w);
+        self.table[left.bits() as usize].with(w)
+    }
+
+    /// The places of the subset at which the set lacks a work.
+    fn unmet(&self, w: usize) -> Set
+        ensures places { Unmet self.now.draw.now.sets.now self.now.subset w result }
+        ensures number { result.bits ≤ self.now.subset.bits }
+    {
+        let mut left = self.subset;
+        'each: for (place, one) in self.draw.sets.iter().enumerate() {
+            if one.contains(w) {
+                left = left.without(place);
+            }
+        }
+        left
+    }
 }

@@ -7,9 +7,7 @@
 //! - `entry`: one entry of the table, from those before it.
 #![tactic(auto)]
 
-ghost use Rattle.std.specs.Prelude.{◌≤◌, vec_len, vec_capacity};
-
-use sets::Set;
+use chooser::Kept;
 
 mod choosing;
 mod entry;
@@ -18,10 +16,11 @@ mod table;
 #[cfg(test)]
 mod tests;
 
-/// At most twelve kept sets, in the order in which they were added. Their places are reserved from the start.
+/// How many sets a tabler can keep.
+const ROOM: usize = 12;
+
+/// At most twelve kept sets.
 #[derive(Drop)]
 pub struct Tabler {
-    sets: Vec<Set>,
-    ghost few: { vec_len sets ≤ 12 },
-    ghost reserved: { 12 ≤ vec_capacity sets },
+    kept: Kept<ROOM>,
 }

@@ -3,6 +3,9 @@ ghost use Rattle.std.specs.Prelude.{◌≡◌};
 
 use std::fmt::Debug;
 
+/// The largest amount, of pounds or of hours, in a single price.
+pub(crate) const CEILING: u64 = 65_535;
+
 /// A strictly ordered commutative monoid of values, with a ceiling for a single price. A total of n prices is nothing
 /// joined with n prices within the ceiling.
 pub trait Tariff {

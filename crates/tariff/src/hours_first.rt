@@ -1,11 +1,10 @@
 ghost use Rattle.tariff.specs.HoursFirstScale.{hours_first_scale, saturated_sums};
 ghost use Rattle.std.specs.Prelude.{◌≡◌};
 
-use crate::domain::Tariff;
+use crate::domain::{CEILING, Tariff};
 
-const CEILING: u64 = 65_535;
-
-#[derive(Clone, Copy, PartialEq, Eq, PartialOrd, Ord, Debug)]
+/// Hours and pounds, in the order of the hours and then of the pounds.
+#[derive(Clone, Copy, PartialEq, Eq, PartialOrd, Ord, Debug, Default)]
 pub struct HoursAndPounds {
     pub hours: u64,
     pub pounds: u64,
@@ -21,10 +20,7 @@ impl Tariff for HoursFirst {
     ghost scale = { hours_first_scale };
 
     fn nothing() -> HoursAndPounds {
-        HoursAndPounds {
-            hours: 0,
-            pounds: 0,
-        }
+        HoursAndPounds::default()
     }
 
     /// A sum past the largest `u64` is the largest `u64`.
@@ -38,7 +34,7 @@ impl Tariff for HoursFirst {
     }
 
     fn is_less(a: HoursAndPounds, b: HoursAndPounds) -> bool {
-        a.hours < b.hours || (a.hours == b.hours && a.pounds < b.pounds)
+        a < b
     }
 
     fn is_price(a: HoursAndPounds) -> bool {

@@ -2,9 +2,7 @@ ghost use Rattle.tariff.specs.Numbers.{saturated_sum};
 ghost use Rattle.tariff.specs.PoundsScale.{pounds_scale};
 ghost use Rattle.std.specs.Prelude.{◌≡◌};
 
-use crate::domain::Tariff;
-
-const CEILING: u64 = 65_535;
+use crate::domain::{CEILING, Tariff};
 
 /// Whole pounds, joined by sum.
 #[derive(Clone, Copy)]

@@ -21,8 +21,8 @@ const NAMES: [Name; 8] = [
 
 const VALUES: [u8; 14] = [0, 1, 2, 3, 5, 6, 7, 31, 32, 63, 64, 126, 127, 255];
 
-/// What the independent reading finds: a reason's number (0 for none), the record's number and its offset.
-#[derive(Clone, Copy)]
+/// Why the independent reading refuses a file: the reason's number, the record's number and its offset.
+#[derive(Clone, Copy, PartialEq, Eq, Debug)]
 struct Finding {
     number: u8,
     index: usize,
@@ -30,6 +30,7 @@ struct Finding {
 }
 
 fn byte(bytes: &[u8], at: usize) -> u8 {
+    // A byte past the end is 0: a record that is cut short is told by its length alone.
     bytes.get(at).copied().unwrap_or(0)
 }
 
@@ -37,6 +38,7 @@ fn pair(bytes: &[u8], at: usize) -> usize {
     byte(bytes, at) as usize + 256 * byte(bytes, at.wrapping_add(1)) as usize
 }
 
+// Kinds and reasons are numbers here, as a file has them: the reading shares nothing with the reader.
 fn has_length(kind: usize, size: usize) -> bool {
     match kind {
         1 | 6 => size == 2,
@@ -56,89 +58,110 @@ fn can_follow(last: usize, kind: usize) -> bool {
     }
 }
 
-/// Whether the bytes from one place up to another are those of a name.
-fn is_name(bytes: &[u8], from: usize, to: usize) -> bool {
-    for at in from..to {
-        if byte(bytes, at) < 32 || byte(bytes, at) > 126 {
-            return false;
-        }
-    }
-    true
+/// The bytes from one place up to another, or none where there are not so many.
+fn part(bytes: &[u8], from: usize, to: usize) -> &[u8] {
+    bytes.get(from..to).unwrap_or(b"")
 }
 
-fn is_zero(bytes: &[u8], from: usize, to: usize) -> bool {
-    for at in from..to {
-        if byte(bytes, at) != 0 {
-            return false;
-        }
-    }
-    true
+fn is_name(bytes: &[u8]) -> bool {
+    bytes.iter().all(|b| *b >= 32 && *b <= 126)
 }
 
-/// The reason by which the record at a place is refused, or 0.
-fn reason(bytes: &[u8], at: usize, last: usize, least: usize, works: usize) -> u8 {
-    let rest = bytes.len().saturating_sub(at);
-    let size = pair(bytes, at);
-    let kind = pair(bytes, at.wrapping_add(2));
-    if rest < 2 || rest - 2 < size {
-        return 12;
+/// How far the independent reading has come.
+#[derive(Clone, Copy)]
+struct Reading {
+    at: usize,
+    /// The kind of the record before, or 0.
+    last: usize,
+    /// The least number that an item can have.
+    least: usize,
+    works: usize,
+}
+
+impl Reading {
+    /// The offset after the record.
+    fn end(self, bytes: &[u8]) -> usize {
+        self.at.wrapping_add(2).wrapping_add(pair(bytes, self.at))
     }
-    if size < 2 || kind == 0 || kind > 6 {
-        return 14;
+
+    /// Refuses the record by a reason's number.
+    fn judge(self, bytes: &[u8]) -> Result<(), u8> {
+        let Reading {
+            at,
+            last,
+            least,
+            works,
+        } = self;
+        let rest = bytes.len().saturating_sub(at);
+        let size = pair(bytes, at);
+        let kind = pair(bytes, at.wrapping_add(2));
+        if rest < 2 || rest - 2 < size {
+            return Err(12);
+        }
+        if size < 2 || kind == 0 || kind > 6 {
+            return Err(14);
+        }
+        if !has_length(kind, size) {
+            return Err(13);
+        }
+        let number = byte(bytes, at.wrapping_add(4)) as usize;
+        if !can_follow(last, kind) || (kind == 2 && number < least) {
+            return Err(15);
+        }
+        let field = |from: usize, to: usize| part(bytes, at.wrapping_add(from), to);
+        match kind {
+            2 if !is_name(field(5, self.end(bytes))) => Err(16),
+            2 if number > 63 => Err(1),
+            3 if !is_name(field(24, self.end(bytes))) => Err(16),
+            3 if field(12, at.wrapping_add(20)).iter().all(|b| *b == 0) => Err(2),
+            3 if works >= 64 => Err(3),
+            _ => Ok(()),
+        }
     }
-    if !has_length(kind, size) {
-        return 13;
-    }
-    let number = byte(bytes, at.wrapping_add(4)) as usize;
-    if !can_follow(last, kind) || (kind == 2 && number < least) {
-        return 15;
-    }
-    let end = at.wrapping_add(2).wrapping_add(size);
-    match kind {
-        2 if !is_name(bytes, at.wrapping_add(5), end) => 16,
-        2 if number > 63 => 1,
-        3 if !is_name(bytes, at.wrapping_add(24), end) => 16,
-        3 if is_zero(bytes, at.wrapping_add(12), at.wrapping_add(20)) => 2,
-        3 if works >= 64 => 3,
-        _ => 0,
+
+    /// The reading after the record.
+    fn next(self, bytes: &[u8]) -> Reading {
+        let last = pair(bytes, self.at.wrapping_add(2));
+        let least = match last {
+            2 => byte(bytes, self.at.wrapping_add(4)) as usize + 1,
+            _ => self.least,
+        };
+        Reading {
+            at: self.end(bytes),
+            last,
+            least,
+            works: self.works.saturating_add(usize::from(last == 3)),
+        }
     }
 }
 
 /// An independent reading: record after record.
-fn independent(bytes: &[u8]) -> Finding {
-    let mut at = 0usize;
-    let mut last = 0;
-    let mut least = 0;
-    let mut works = 0usize;
-    for index in 0..bytes.len() + 1 {
-        let number = if last == 6 && at == bytes.len() {
-            0
-        } else if last == 6 {
-            15
-        } else {
-            reason(bytes, at, last, least, works)
+fn independent(bytes: &[u8]) -> Result<(), Finding> {
+    let mut reading = Reading {
+        at: 0,
+        last: 0,
+        least: 0,
+        works: 0,
+    };
+    for index in 0..=bytes.len() {
+        let offset = reading.at;
+        let judged = match reading.last {
+            6 if offset == bytes.len() => return Ok(()),
+            6 => Err(15),
+            _ => reading.judge(bytes),
         };
-        if number > 0 || last == 6 {
-            return Finding {
-                number,
-                index,
-                offset: at,
-            };
-        }
-        last = pair(bytes, at.wrapping_add(2));
-        if last == 2 {
-            least = byte(bytes, at.wrapping_add(4)) as usize + 1;
-        }
-        if last == 3 {
-            works = works.wrapping_add(1);
-        }
-        at = at.wrapping_add(2).wrapping_add(pair(bytes, at));
+        judged.map_err(|number| Finding {
+            number,
+            index,
+            offset,
+        })?;
+        reading = reading.next(bytes);
     }
-    Finding {
+    Err(Finding {
         number: 12,
         index: 0,
         offset: 0,
-    }
+    })
 }
 
 /// Whether the reader and the independent reading agree.
@@ -152,13 +175,13 @@ fn agree(bytes: &[u8], scheme: &mut Scheme) -> bool {
         number: 0,
         name: NAMES[0],
     }; 64];
-    let found = independent(bytes);
-    match read(bytes, scheme, &mut works, &mut items) {
-        Ok(_) => found.number == 0,
-        Err(fault) => fault.cause.number() == found.number
-            && fault.index == found.index
-            && fault.offset == found.offset,
-    }
+    let told = read(bytes, scheme, &mut works, &mut items);
+    let told = told.map(|_| ()).map_err(|fault| Finding {
+        number: fault.cause.number(),
+        index: fault.index,
+        offset: fault.offset,
+    });
+    told == independent(bytes)
 }
 
 /// The rows of the sample junction.
@@ -168,8 +191,8 @@ fn work_rows() -> [WorkRow; 7] {
         hours: 65_535,
         name: NAMES[0],
     }; 7];
-    for i in 0..7usize {
-        rows[i].name = NAMES[i];
+    for (row, name) in rows.iter_mut().zip(&NAMES) {
+        row.name = *name;
     }
     rows
 }
@@ -198,6 +221,7 @@ fn try_prefixes(rt: &impl Abort, file: &[u8], scheme: &mut Scheme) {
 
 /// A file with each byte changed.
 fn try_changes(rt: &impl Abort, file: &mut [u8], scheme: &mut Scheme) {
+    // By index: the whole file is read while one byte of it is another.
     for at in 0..file.len() {
         let was = file[at];
         for value in VALUES {

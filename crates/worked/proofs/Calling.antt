@@ -1,29 +1,23 @@
 -- Lists of calls, run: openings, and entries, wants and questions that are not refused.
-use Rattle.std.proofs.Common.{◌≡◌, ℕ, ◌^◌, Bool, true, not, ◌&&◌, eqb, ltb, leb, List, [], ◌∷◌, ◌++◌, length, Some, None, Option, ap, subst, append_assoc, append-nil, arith}
-use Rattle.std.proofs.lemmas.Bool.{and_parts, eqb-true, leb-true, ltb-true, not-true}
-use Rattle.std.proofs.lemmas.Bool.Decides.{not_from_Decides}
+use Rattle.std.proofs.Common.{◌≡◌, ℕ, ◌^◌, Bool, true, not, ◌&&◌, eqb, ltb, leb, List, [], ◌∷◌, ◌++◌, length, Some, None, Option, ap, append_assoc, append-nil, arith}
+use Rattle.std.specs.Option.{IfSome, option_and_then}
+use Rattle.std.proofs.lemmas.Bool.{and_parts, eqb-true, leb-true, ltb-true}
+use Rattle.std.proofs.lemmas.Bool.Decides.{Decides-and, Decides-ltb, Decides-not}
 use Rattle.sets.specs.declared.Set.{Set}
+use Rattle.sets.specs.Listed.{has_bit}
 use Rattle.sets.proofs.Laws.{has_below}
 use Rattle.scheme.specs.Task.{Task}
 use Rattle.scheme.specs.Edits.{opened, with_works, with_wanted}
 use Rattle.tariff.specs.Amounts.{Scale, All}
 use Rattle.rules.specs.Calls.{Call, Fair, Valid, of_parts, Effect, entered, added, asked, Since, opening, then}
-use Rattle.rules.specs.Calls.Call.{enter, amend, stand, want, waive, mark, ask}
-use Rattle.worked.proofs.Tests.{when, when_by, Holds, has?, has_tells, with, with_members}
+use Rattle.rules.specs.Calls.Call.{enter, want, ask}
+use Rattle.worked.proofs.Tests.{when, when_tells, and_then_holds, has_tells, with, with_members}
 use Rattle.worked.proofs.Searching.{Comparing}
-use Rattle.worked.proofs.Asking.{Answer, Answers, question, question_holds}
+use Rattle.worked.proofs.Asking.{question, question_holds}
 
 -- what is held and kept; None where a call is not run
 abbrev pub State : Type 0
 State = Option (Task × List Set)
-
-abbrev pub keeping : {X : Type 0} → Task → Option (X × List Set) → State
-keeping k None = None
-keeping k (Some (x, to)) = Some (k, to)
-
-abbrev pub go_on : (Task → List Set → State) → State → State
-go_on rest None = None
-go_on rest (Some (k, kept)) = rest k kept
 
 module _ {V : Type 0} (t : Scale V) (c : Comparing t) where
   -- ---- arguments that are not refused
@@ -35,14 +29,14 @@ module _ {V : Type 0} (t : Scale V) (c : Comparing t) where
   all_within : (vs : List V) → all_within? vs ≡ true → All t.within vs
   all_within [] e = tt
   all_within (v ∷ vs) e =
-      let p = and_parts (c.within? v) (all_within? vs) e in (c.within v p.0, all_within vs p.1)
+      let p = and_parts _ _ e in (c.within v p.0, all_within vs p.1)
 
   abbrev pub fair? : Task → List V → Bool
   fair? k prices = eqb (length prices) (length k.works) && all_within? prices
 
   pub fair : (k : Task) (prices : List V) → fair? k prices ≡ true → Fair t k prices
   fair k prices e =
-      let p = and_parts (eqb (length prices) (length k.works)) (all_within? prices) e in
+      let p = and_parts _ _ e in
       (eqb-true _ _ p.0, all_within prices p.1)
 
   abbrev pub valid? : Task → List V → Set → ℕ → Bool
@@ -50,8 +44,8 @@ module _ {V : Type 0} (t : Scale V) (c : Comparing t) where
 
   valid : (k : Task) (prices : List V) (bars : Set) (places : ℕ) → valid? k prices bars places ≡ true → Valid t k prices bars places
   valid k prices bars places e =
-      let p = and_parts (fair? k prices) (ltb bars.bits (2 ^ length k.works) && leb (length k.works) places) e in
-      let q = and_parts (ltb bars.bits (2 ^ length k.works)) (leb (length k.works) places) p.1 in
+      let p = and_parts _ _ e in
+      let q = and_parts _ _ p.1 in
       (fair k prices p.0, λ w. has_below (length k.works) bars w (ltb-true _ _ q.0), leb-true _ _ q.1)
 
   -- ---- one call
@@ -61,82 +55,48 @@ module _ {V : Type 0} (t : Scale V) (c : Comparing t) where
     does k kept (enter n g) =
         when (ltb 0 g.bits && ltb (length k.works) 64) (λ _. Some (with_works k (k.works ++ (of_parts n g ∷ [])), [])) (λ _. None)
     does k kept (want i) =
-        when (ltb i 64 && not (has? k.wanted i)) (λ _. Some (with_wanted k (with k.wanted i), kept)) (λ _. None)
+        when (ltb i 64 && not (has_bit k.wanted i)) (λ _. Some (with_wanted k (with k.wanted i), kept)) (λ _. None)
     does k kept (ask prices bars places) =
         when (valid? k prices bars places && leb (length kept) capacity)
-        (λ _. keeping k (question t c capacity k prices bars kept)) (λ _. None)
-    does k kept (amend w n g) = None
-    does k kept (stand i) = None
-    does k kept (waive i) = None
-    does k kept (mark prices bars paper) = None
+        (λ _. option_and_then (λ a. Some (k, a.1)) (question t c capacity k prices bars kept)) (λ _. None)
+    does k kept other = None
 
     abbrev Does : Task → List Set → Call V → State → Type 0
-    Does k kept call = Holds (Effect t capacity k kept call)
-
-    keeping_holds :
-        (k : Task) (kept : List Set) (prices : List V) (bars : Set) (places : ℕ) →
-        Valid t k prices bars places →
-        (a : Answer t.Amount) →
-        Answers t c capacity k prices bars kept a →
-        Does k kept (ask prices bars places) (keeping k a)
-    keeping_holds k kept prices bars places ok None h = tt
-    keeping_holds k kept prices bars places ok (Some (o, to)) h = asked ok h
+    Does k kept call r = IfSome r (λ s. Effect t capacity k kept call s.0 s.1)
 
     does_holds : (k : Task) (kept : List Set) (call : Call V) → Does k kept call (does k kept call)
     does_holds k kept (enter n g) =
-        when_by (Does k kept (enter n g)) _ _ _
-        (λ e.
-        let p = and_parts (ltb 0 g.bits) (ltb (length k.works) 64) e in
-        entered (λ none. omega (arith, ltb-true _ _ p.0, ap (λ (s : Set). s.bits) none)) (ltb-true _ _ p.1))
-        (λ _. tt)
+        when_tells (Does k kept (enter n g)) _ _ (Decides-and _ _ (Decides-ltb 0 g.bits) (Decides-ltb (length k.works) 64))
+        (λ p. entered (λ none. omega (arith, p.0, ap (λ (s : Set). s.bits) none)) p.1) (λ _. tt)
     does_holds k kept (want i) =
-        when_by (Does k kept (want i)) _ _ _
-        (λ e.
-        let p = and_parts (ltb i 64) (not (has? k.wanted i)) e in
-        added (ltb-true _ _ p.0) (not_from_Decides _ (has_tells k.wanted i) (not-true _ p.1)) (with_members k.wanted i))
-        (λ _. tt)
+        when_tells (Does k kept (want i)) _ _ (Decides-and _ _ (Decides-ltb i 64) (Decides-not _ (has_tells k.wanted i)))
+        (λ p. added p.0 p.1 (with_members k.wanted i)) (λ _. tt)
     does_holds k kept (ask prices bars places) =
-        when_by (Does k kept (ask prices bars places)) _ _ _
+        when_tells (Does k kept (ask prices bars places)) _ _ (λ e. e, λ e. e)
         (λ e.
-        let p = and_parts (valid? k prices bars places) (leb (length kept) capacity) e in
+        let p = and_parts _ _ e in
         let ok = valid k prices bars places p.0 in
-        keeping_holds k kept prices bars places ok (question t c capacity k prices bars kept)
+        and_then_holds _ _ (λ a. asked ok)
+        (question t c capacity k prices bars kept)
         (question_holds t c capacity k prices bars ok.0 kept (leb-true _ _ p.1)))
         (λ _. tt)
-    does_holds k kept (amend w n g) = tt
-    does_holds k kept (stand i) = tt
-    does_holds k kept (waive i) = tt
-    does_holds k kept (mark prices bars paper) = tt
+    does_holds k kept other = tt
 
     -- ---- one call after another
 
-    abbrev pub after : List (Call V) → Task → List Set → State
-    after [] k kept = Some (k, kept)
-    after (call ∷ calls) k kept = go_on (after calls) (does k kept call)
-
-    abbrev pub Ends : List (Call V) → State → Type 0
-    Ends calls = Holds (Since t capacity calls)
-
-    go_on_holds :
-        (k : Task) (kept : List Set) (call : Call V) (calls : List (Call V)) (rest : Task → List Set → State) →
-        ((x : Task) (to : List Set) → Effect t capacity k kept call x to → Ends calls (rest x to)) →
-        (s : State) →
-        Does k kept call s →
-        Ends calls (go_on rest s)
-    go_on_holds k kept call calls rest later None h = tt
-    go_on_holds k kept call calls rest later (Some (x, to)) h = later x to h
+    abbrev pub after : List (Call V) → Task × List Set → State
+    after [] s = Some s
+    after (call ∷ calls) s = option_and_then (after calls) (does s.0 s.1 call)
 
     after_holds :
-        (later calls : List (Call V)) (k : Task) (kept : List Set) →
-        Since t capacity calls k kept →
-        Ends (calls ++ later) (after later k kept)
-    after_holds [] calls k kept h = rw (append-nil calls) h
-    after_holds (call ∷ later) calls k kept h =
-        go_on_holds k kept call (calls ++ (call ∷ later)) (after later)
-        (λ x to e.
-        subst (λ (cs : List (Call V)). Ends cs (after later x to)) (append_assoc calls (call ∷ []) later)
-        (after_holds later (calls ++ (call ∷ [])) x to (then h e)))
-        (does k kept call) (does_holds k kept call)
+        (later calls : List (Call V)) (s : Task × List Set) →
+        Since t capacity calls s.0 s.1 →
+        IfSome (after later s) (λ e. Since t capacity (calls ++ later) e.0 e.1)
+    after_holds [] calls s h = rw (append-nil calls) h
+    after_holds (call ∷ later) calls s h =
+        and_then_holds _ (after later)
+        (λ x e. rw append_assoc at (after_holds later (calls ++ (call ∷ [])) x (then h e)))
+        (does s.0 s.1 call) (does_holds s.0 s.1 call)
 
-    pub since_holds : (calls : List (Call V)) → Ends calls (after calls opened [])
-    since_holds calls = after_holds calls [] opened [] opening
+    pub since_holds : (calls : List (Call V)) → IfSome (after calls (opened, [])) (λ s. Since t capacity calls s.0 s.1)
+    since_holds calls = after_holds calls [] (opened, []) opening

@@ -3,7 +3,7 @@ use Rattle.std.proofs.Common.{ℕ, zero, suc, Bool, not, ◌&&◌, length}
 use Rattle.std.proofs.lemmas.Bool.Decides.{Decides-and, Decides-not}
 use Rattle.sets.specs.declared.Set.{Set}
 use Rattle.scheme.specs.Task.{Task, work}
-use Rattle.scheme.specs.Landmarks.{Drawn, Leaves}
+use Rattle.scheme.specs.Landmarks.{Drawn}
 use Rattle.scheme.proofs.Drawing.{GrownTo, grown_none, grown_all, grown_with, grown_over}
 use Rattle.worked.proofs.Tests.{when, when_tells, sub?, sub_tells, with, with_members, passing, passing_members}
 use Rattle.worked.proofs.Reaching.{reach, reach_holds, sufficient?, sufficient_tells}
@@ -41,7 +41,7 @@ module _ (k : Task) (s : Set) where
         is_grown = grown_all k s (grow_holds (length k.works));
         is_reach = reach_holds k g;
         leaving =
-            passing_members (Leaves k.works r) (leaves? r)
+            passing_members _ _
             (λ w. Decides-and _ _ (sub_tells (work k.works w).needs r) (Decides-not _ (sub_tells (work k.works w).gives r)))
-            (length k.works);
+            _;
       }

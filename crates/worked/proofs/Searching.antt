@@ -1,15 +1,16 @@
 -- The least set of allowed works that meets every kept set, run: a search that branches over the works of one kept set after another.
-use Rattle.std.proofs.Common.{◌≡◌, ℕ, zero, suc, ◌<◌, Bool, true, false, ltb, ◌⊎◌, List, [], ◌∷◌, Some, None, Decides, Option, sym, refl, subst, inl, inr, ⊎_elim, arith}
+use Rattle.std.proofs.Common.{◌≡◌, ℕ, zero, suc, ◌<◌, Bool, true, not, ◌&&◌, ◌||◌, ltb, ◌⊎◌, List, [], ◌∷◌, Some, None, Decides, Option, sym, refl, subst, inl, inr, ⊎_elim, arith}
 use native.Mathlib.Decide.{dec_lt}
-use Rattle.std.proofs.lemmas.Bool.Decides.{Decides-ltb}
+use Rattle.std.proofs.lemmas.Bool.Decides.{Decides-ltb, Decides-and, Decides-or, Decides-not, Decides-like}
 use Rattle.sets.specs.declared.Set.{Set}
+use Rattle.sets.specs.Listed.{has_bit}
 use Rattle.sets.specs.Member.{Has, Sub, Meet}
 use Rattle.sets.proofs.Laws.{intersection_members}
 use Rattle.tariff.specs.Amounts.{Scale, All}
-use Rattle.tariff.proofs.Order.{at_most_antisymmetric}
+use Rattle.tariff.proofs.Order.{less_or_equal, at_most_of_equal}
 use Rattle.chooser.specs.Least.{Precedes, set_cost}
-use Rattle.chooser.proofs.Precedence.{precedes_sub, precedes_transitive}
-use Rattle.worked.proofs.Tests.{when, when_tells, has?, has_tells, meet?, meet_tells, both, with, with_members}
+use Rattle.chooser.proofs.Precedence.{precedes_of_not, precedes_sub, precedes_transitive}
+use Rattle.worked.proofs.Tests.{when, when_tells, has_tells, meet?, meet_tells, both, with, with_members}
 
 -- tests of which amount is less, and which price within the ceiling
 pub record Comparing {V : Type 0} (t : Scale V) : Type 0 where
@@ -25,22 +26,16 @@ module _ {V : Type 0} (t : Scale V) (c : Comparing t) (prices : List V) where
   ahead? a b =
       let x = set_cost t prices a in
       let y = set_cost t prices b in
-      when (c.less? x y) (λ _. true)
-      (λ _. when (c.less? y x) (λ _. false) (λ _. when (ltb b.bits a.bits) (λ _. false) (λ _. true)))
+      c.less? x y || (not (c.less? y x) && not (ltb b.bits a.bits))
 
-  abbrev Ahead : Set → Set → Bool → Type 0
-  Ahead a b true = Precedes t prices a b
-  Ahead a b false = Precedes t prices b a
-
-  ahead_tells : (a b : Set) → Ahead a b (ahead? a b)
+  ahead_tells : (a b : Set) → Decides (ahead? a b) (Precedes t prices a b)
   ahead_tells a b =
       let x = set_cost t prices a in
       let y = set_cost t prices b in
-      when_tells (Ahead a b) _ _ (c.tells x y) (λ less. inl less)
-      (λ not. when_tells (Ahead a b) _ _ (c.tells y x) (λ less. inl less)
-      (λ nor.
-      let same : x ≡ y = at_most_antisymmetric t x y nor not in
-      when_tells (Ahead a b) _ _ (Decides-ltb b.bits a.bits) (λ lt. inr (sym same, omega arith)) (λ ge. inr (same, omega arith))))
+      Decides-like _
+      (⊎_elim inl (λ p. ⊎_elim inl (λ e. inr (e, omega (arith, p.1))) (less_or_equal t x y p.0)))
+      (⊎_elim inl (λ p. inr (at_most_of_equal t x y p.0, omega (arith, p.1))))
+      (Decides-or _ _ (c.tells x y) (Decides-and _ _ (Decides-not _ (c.tells y x)) (Decides-not _ (Decides-ltb b.bits a.bits))))
 
   -- ---- the first of the sets of which P holds
 
@@ -57,91 +52,60 @@ module _ {V : Type 0} (t : Scale V) (c : Comparing t) (prices : List V) where
   better (Some a) None = Some a
   better (Some a) (Some b) = when (ahead? a b) (λ _. Some a) (λ _. Some b)
 
-  module _ (P Q : Set → Type 0) where
-    abbrev Either : Set → Type 0
-    Either o = P o ⊎ Q o
+  better_first : (P Q : Set → Type 0) (x y : Option Set) → First P x → First Q y → First (λ o. P o ⊎ Q o) (better x y)
+  better_first P Q None None h g = λ o. ⊎_elim (h o) (g o)
+  better_first P Q None (Some b) h g = (inr g.0, λ o. ⊎_elim (λ p. absurd (h o p)) (g.1 o))
+  better_first P Q (Some a) None h g = (inl h.0, λ o. ⊎_elim (h.1 o) (λ q. absurd (g o q)))
+  better_first P Q (Some a) (Some b) h g =
+      when_tells (First (λ o. P o ⊎ Q o)) _ _ (ahead_tells a b)
+      (λ before. (inl h.0, λ o. ⊎_elim (h.1 o) (λ q. precedes_transitive t prices a b o before (g.1 o q))))
+      (λ not.
+      let before = precedes_of_not t prices a b not in
+      (inr g.0, λ o. ⊎_elim (λ p. precedes_transitive t prices b a o before (h.1 o p)) (g.1 o)))
 
-    chosen : (a b : Set) → First P (Some a) → First Q (Some b) → (x : Bool) → Ahead a b x → First Either (when x (λ _. Some a) (λ _. Some b))
-    chosen a b h g true before =
-        (inl h.0, λ o. ⊎_elim (h.1 o) (λ q. precedes_transitive t prices a b o before (g.1 o q)))
-    chosen a b h g false before =
-        (inr g.0, λ o. ⊎_elim (λ p. precedes_transitive t prices b a o before (h.1 o p)) (g.1 o))
+  -- ---- the first of what each work below m that passes a test leads to
 
-    better_first : (x y : Option Set) → First P x → First Q y → First Either (better x y)
-    better_first None None h g = λ o. ⊎_elim (h o) (g o)
-    better_first None (Some b) h g = (inr g.0, λ o. ⊎_elim (λ p. absurd (h o p)) (g.1 o))
-    better_first (Some a) None h g = (inl h.0, λ o. ⊎_elim (h.1 o) (λ q. absurd (g o q)))
-    better_first (Some a) (Some b) h g = chosen a b h g (ahead? a b) (ahead_tells a b)
+  abbrev pub best : (ℕ → Bool) → (ℕ → Option Set) → ℕ → Option Set
+  best test rest zero = None
+  best test rest (suc m) =
+      let others = best test rest m in when (test m) (λ _. better (rest m) others) (λ _. others)
+
+  module _ (R : ℕ → Type 0) (test : ℕ → Bool) (tells : (w : ℕ) → Decides (test w) (R w)) (rest : ℕ → Option Set) (P : ℕ → Set → Type 0)
+      (each : (w : ℕ) → R w → First (P w) (rest w)) where
+    abbrev Led : ℕ → Set → Type 0
+    Led m o = (w : ℕ) × (w < m) × R w × P w o
+
+    last_or_below : (m : ℕ) (o : Set) → Led (suc m) o → (R m × P m o) ⊎ Led m o
+    last_or_below m o (w, lt, r, p) =
+        elim (dec_lt w m) [
+          | yes below ↦ inr (w, below, r, p)
+          | no at ↦ let e : w ≡ m = omega arith in inl (subst (λ (v : ℕ). R v × P v o) e (r, p))
+        ]
+
+    pub best_first : (m : ℕ) → First (Led m) (best test rest m)
+    best_first zero = λ o h. omega (arith, h.1)
+    best_first (suc m) =
+        let others = best test rest m in
+        let further : (o : Set) → Led m o → Led (suc m) o = λ o h. (h.0, omega (arith, h.1), h.2, h.3) in
+        when_tells (First (Led (suc m))) _ _ (tells m)
+        (λ here.
+        first_like (λ o. P m o ⊎ Led m o) _ (λ o. ⊎_elim (λ p. (m, omega arith, here, p)) (further o))
+        (λ o h. ⊎_elim (λ p. inl p.1) inr (last_or_below m o h)) _
+        (better_first _ _ (rest m) others (each m here) (best_first m)))
+        (λ not.
+        first_like _ _ further (λ o h. ⊎_elim (λ p. absurd (not p.0)) (λ q. q) (last_or_below m o h)) _ (best_first m))
 
   -- ---- the search
 
   module _ (free : Set) (n : ℕ) where
-    abbrev pub branches : (Set → Option Set) → Set → ℕ → Set → Option Set
-    branches rest works zero s = None
-    branches rest works (suc m) s =
-        let others = branches rest works m s in when (has? works m) (λ _. better (rest (with s m)) others) (λ _. others)
-
     -- the first set that meets the kept sets, has the works of s, and otherwise only free ones
     abbrev pub search : List Set → Set → Option Set
     search [] s = Some s
     search (l ∷ kept) s =
-        when (meet? l s) (λ _. search kept s) (λ _. branches (search kept) (both l free) n s)
+        when (meet? l s) (λ _. search kept s) (λ _. best (has_bit (both l free)) (λ w. search kept (with s w)) n)
 
     abbrev pub Within : Set → List Set → Set → Type 0
     Within s kept o = Sub s o × Sub o free × All (Meet o) kept
-
-    -- and one of the given works below m
-    abbrev Through : Set → List Set → Set → ℕ → Set → Type 0
-    Through s kept works m o = Within s kept o × ((w : ℕ) × (w < m) × Has works w × Has o w)
-
-    through_more : (s : Set) (kept : List Set) (works : Set) (m : ℕ) → Has works m → (o : Set) →
-        (Within (with s m) kept o ⊎ Through s kept works m o → Through s kept works (suc m) o)
-        × (Through s kept works (suc m) o → Within (with s m) kept o ⊎ Through s kept works m o)
-    through_more s kept works m here o =
-        let adds = with_members s m in (
-          ⊎_elim
-              (λ h. ((λ k y. h.0 k ((adds k).1 (inl y)), h.1, h.2), (m, omega arith, here, h.0 m ((adds m).1 (inr refl)))))
-              (λ h. (h.0, (h.1.0, omega (arith, h.1.1), h.1.2, h.1.3))),
-          λ h.
-              let w = h.1.0 in
-              elim (dec_lt w m) [
-                | yes lt ↦ inr (h.0, (w, lt, h.1.2, h.1.3))
-                | no ge ↦
-                    let e : w ≡ m = omega (arith, h.1.1) in
-                    let has : Has o m = subst (Has o) e h.1.3 in
-                    inl (λ k y. ⊎_elim (h.0.0 k) (λ q. subst (Has o) (sym q) has) ((adds k).0 y), h.0.1, h.0.2)
-              ],
-        )
-
-    through_over : (s : Set) (kept : List Set) (works : Set) (m : ℕ) → (Has works m → ⊥) → (o : Set) →
-        (Through s kept works m o → Through s kept works (suc m) o) × (Through s kept works (suc m) o → Through s kept works m o)
-    through_over s kept works m not o = (
-      λ h. (h.0, (h.1.0, omega (arith, h.1.1), h.1.2, h.1.3)),
-      λ h.
-          let w = h.1.0 in
-          elim (dec_lt w m) [
-            | yes lt ↦ (h.0, (w, lt, h.1.2, h.1.3))
-            | no ge ↦ let e : w ≡ m = omega (arith, h.1.1) in absurd (not (subst (Has works) e h.1.2))
-          ],
-    )
-
-    branches_first :
-        (s : Set) (kept : List Set) (rest : Set → Option Set) (works : Set) →
-        ((w : ℕ) → Has works w → First (Within (with s w) kept) (rest (with s w))) →
-        (m : ℕ) →
-        First (Through s kept works m) (branches rest works m s)
-    branches_first s kept rest works each zero = λ o h. omega (arith, h.1.1)
-    branches_first s kept rest works each (suc m) =
-        let others = branches rest works m s in
-        let more = branches_first s kept rest works each m in
-        when_tells (First (Through s kept works (suc m))) _ _ (has_tells works m)
-        (λ here.
-        first_like (Either (Within (with s m) kept) (Through s kept works m)) (Through s kept works (suc m))
-        (λ o. (through_more s kept works m here o).0) (λ o. (through_more s kept works m here o).1) (better (rest (with s m)) others)
-        (better_first (Within (with s m) kept) (Through s kept works m) (rest (with s m)) others (each m here) more))
-        (λ not.
-        first_like (Through s kept works m) (Through s kept works (suc m)) (λ o. (through_over s kept works m not o).0)
-        (λ o. (through_over s kept works m not o).1) others more)
 
     pub search_first :
         ((w : ℕ) → Has free w → w < n) →
@@ -153,16 +117,20 @@ module _ {V : Type 0} (t : Scale V) (c : Comparing t) (prices : List V) where
         let shared = intersection_members l free in
         when_tells (First (Within s (l ∷ kept))) _ _ (meet_tells l s)
         (λ m.
-        first_like (Within s kept) (Within s (l ∷ kept)) (λ o h. (h.0, h.1, ((m.0, h.0 m.0 m.2, m.1), h.2)))
-        (λ o h. (h.0, h.1, h.2.1)) (search kept s) (search_first low kept s sub))
+        first_like (Within s kept) _ (λ o h. (h.0, h.1, ((m.0, h.0 m.0 m.2, m.1), h.2)))
+        (λ o h. (h.0, h.1, h.2.1)) _ (search_first low kept s sub))
         (λ not.
-        first_like (Through s kept (both l free) n) (Within s (l ∷ kept))
-        (λ o h. let w = h.1 in (h.0.0, h.0.1, ((w.0, w.3, ((shared w.0).0 w.2).0), h.0.2)))
+        first_like (λ o. (w : ℕ) × (w < n) × Has (both l free) w × Within (with s w) kept o) _
+        (λ o h.
+        let adds = with_members s h.0 in
+        let in-o = h.3.0 h.0 ((adds h.0).1 (inr refl)) in
+        (λ k y. h.3.0 k ((adds k).1 (inl y)), h.3.1, ((h.0, in-o, ((shared h.0).0 h.2).0), h.3.2)))
         (λ o h.
         let (w, in-o, in-l) = h.2.0 in
-        ((h.0, h.1, h.2.1), (w, low w (h.1 w in-o), (shared w).1 (in-l, h.1 w in-o), in-o)))
-        (branches (search kept) (both l free) n s)
-        (branches_first s kept (search kept) (both l free)
+        let grown : Sub (with s w) o = λ k y. ⊎_elim (h.0 k) (λ e. subst (Has o) (sym e) in-o) ((with_members s w k).0 y) in
+        (w, low w (h.1 w in-o), (shared w).1 (in-l, h.1 w in-o), (grown, h.1, h.2.1)))
+        _
+        (best_first _ _ (has_tells (both l free)) _ _
         (λ w y. search_first low kept (with s w)
         (λ k z. ⊎_elim (sub k) (λ e. subst (Has free) (sym e) ((shared w).0 y).1) ((with_members s w k).0 z)))
         n))

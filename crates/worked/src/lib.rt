@@ -6,68 +6,76 @@
 
 ghost use Rattle.worked.specs.Worked.{Worked, OnTheSample, OnOthers};
 
-/// An answer in pounds: the works in order, their total and the number of rounds.
-#[derive(Drop)]
-pub struct Answer<const N: usize> {
+use sets::Set;
+use tariff::hours_first::HoursAndPounds;
+
+/// An answer: the works in order, their total and the number of rounds.
+#[derive(Clone, Copy, PartialEq, Eq, Debug)]
+pub struct Answer<V, const N: usize> {
     pub order: [usize; N],
-    pub total: u64,
+    pub total: V,
     pub rounds: usize,
 }
 
-/// An answer by hours first.
-#[derive(Drop)]
-pub struct HoursAnswer {
-    pub order: [usize; 4],
-    pub hours: u64,
-    pub pounds: u64,
-    pub rounds: usize,
+/// A verdict, in pounds.
+#[derive(Clone, Copy, PartialEq, Eq, Debug)]
+pub enum Verdict {
+    /// The paper can be carried out, but another order is cheaper than its total.
+    Dearer { total: u64 },
+    /// The work at this place lacks this item.
+    Lacking { place: usize, item: usize },
+    /// This item is missing after the last work.
+    Missing { item: usize },
 }
 
-/// What the verdicts on three papers tell: the total of a dearer one, the place and the item that another lacks, and the item missing after the third.
-#[derive(Drop)]
-pub struct Verdicts {
-    pub dearer: u64,
-    pub place: usize,
-    pub lacking: usize,
-    pub missing: usize,
+/// A paper: its works in order and the verdict on it.
+#[derive(Clone, Copy, PartialEq, Eq, Debug)]
+pub struct Paper<const N: usize> {
+    pub order: [usize; N],
+    pub verdict: Verdict,
 }
 
+// Each question stands in the contract, with its answer: in a list of cases here, every bar and price would have to be stated there once more.
 /// The sample junction.
-#[derive(Drop)]
+#[derive(Clone, Copy, PartialEq, Eq, Debug)]
 pub struct SampleCases {
     /// In pounds, from nothing kept.
-    pub first: Answer<5>,
-    /// The landmarks kept then and after each later question, as sets of works: the bit of weight 2^k is work k.
-    pub kept: [u64; 5],
+    pub first: Answer<u64, 5>,
+    /// The landmarks kept then and after each later question, as sets of works.
+    pub kept: [Set; 5],
     /// The same question again.
-    pub again: Answer<5>,
+    pub again: Answer<u64, 5>,
     /// With the radar, work 5, barred.
-    pub radarless: Answer<5>,
+    pub radarless: Answer<u64, 5>,
     /// With the duct, work 1, barred.
-    pub ductless: Answer<4>,
+    pub ductless: Answer<u64, 4>,
     /// By hours first, from nothing kept.
-    pub hours: HoursAnswer,
-    /// The papers with the works 0, 3, 5, 6; then 3 alone; then 1, 2, 3.
-    pub papers: Verdicts,
+    pub hours: Answer<HoursAndPounds, 4>,
+    /// A paper that can be carried out, while another order is cheaper.
+    pub dear_paper: Paper<4>,
+    /// A paper that lacks an item at a place.
+    pub lacking_paper: Paper<1>,
+    /// A paper that can be carried out, with an item missing after it.
+    pub missing_paper: Paper<3>,
 }
 
 /// Other junctions, in pounds, from nothing kept.
-#[derive(Drop)]
+#[derive(Clone, Copy, PartialEq, Eq, Debug)]
 pub struct OtherCases {
     /// Nothing is wanted.
-    pub idle: Answer<0>,
+    pub idle: Answer<u64, 0>,
     /// Three free works that give 0, 1 and both; both are wanted.
-    pub free: Answer<2>,
+    pub free: Answer<u64, 2>,
     /// Two works at 5 pounds that give the wanted item.
-    pub equal: Answer<1>,
+    pub equal: Answer<u64, 1>,
     /// Twelve works at 1 pound that each give a wanted item of its own, at a capacity of 12.
-    pub twelve: Answer<12>,
+    pub twelve: Answer<u64, 12>,
     /// Thirteen such works, at a capacity of 64.
-    pub thirteen: Answer<13>,
+    pub thirteen: Answer<u64, 13>,
 }
 
 /// The worked junctions.
-#[derive(Drop)]
+#[derive(Clone, Copy, PartialEq, Eq, Debug)]
 pub struct Cases {
     pub sample: SampleCases,
     pub others: OtherCases,
@@ -82,7 +90,13 @@ fn sample_cases() -> SampleCases
             total: 1850,
             rounds: 6,
         },
-        kept: [0b100_0000, 0b11_0000, 0b1000, 0b101, 0b11],
+        kept: [
+            Set::of(&[6]),
+            Set::of(&[4, 5]),
+            Set::of(&[3]),
+            Set::of(&[0, 2]),
+            Set::of(&[0, 1]),
+        ],
         again: Answer {
             order: [1, 2, 3, 5, 6],
             total: 1850,
@@ -98,17 +112,25 @@ fn sample_cases() -> SampleCases
             total: 1950,
             rounds: 1,
         },
-        hours: HoursAnswer {
+        hours: Answer {
             order: [0, 3, 5, 6],
-            hours: 12,
-            pounds: 1950,
+            total: HoursAndPounds {
+                hours: 12,
+                pounds: 1950,
+            },
             rounds: 6,
         },
-        papers: Verdicts {
-            dearer: 1950,
-            place: 0,
-            lacking: 0,
-            missing: 4,
+        dear_paper: Paper {
+            order: [0, 3, 5, 6],
+            verdict: Verdict::Dearer { total: 1950 },
+        },
+        lacking_paper: Paper {
+            order: [3],
+            verdict: Verdict::Lacking { place: 0, item: 0 },
+        },
+        missing_paper: Paper {
+            order: [1, 2, 3],
+            verdict: Verdict::Missing { item: 4 },
         },
     }
 }

@@ -1,11 +1,11 @@
-use Rattle.std.proofs.Common.{ℕ, take, sym, refl, subst, inl, inr}
+use Rattle.std.proofs.Common.{ℕ, ◌∙◌, take, sym, subst, inl, inr}
 use native.Mathlib.Nat.{sub-zero}
 use Rattle.scheme.specs.Task.{task_of}
 use Rattle.scheme_file.specs.declared.rows.Counts.{Counts}
 use Rattle.scheme_file.specs.Contents.{Reads, contents}
 use Rattle.scheme_file.specs.Format.{Contents}
 use Rattle.planner.specs.Parts.{scheme_of}
-use Rattle.report.specs.Lines.{fault_text}
+use Rattle.report.specs.Refused.{refused_text}
 use Rattle.report.proofs.Alone.{answered_only, refused_only}
 use Rattle.report.proofs.reporting.report_cheapest.Goals as goal
 
@@ -39,8 +39,8 @@ returns-in-Err g c =
     contents (task_of (scheme_of c.read.new.self)) (take n.works c.read.new.works) (take n.items c.read.new.items) c.args.bytes.now
     in
     record {
-      text = fault_text c.in-Err.fault;
-      told = inr (record { fault = c.in-Err.fault; faulty = read.0; written = refl }, read.1, read.2);
-      only = refused_only g.C.Chooser.room c.args.bytes.now filled c.in-Err.fault reading.short reading.sole;
+      text = refused_text c.from.result;
+      told = inr (record { fault = c.in-Err.fault; faulty = read.0; written = c.from.ensures }, read.1, read.2);
+      only = λ other p. refused_only g.C.Chooser.room c.args.bytes.now filled c.in-Err.fault reading.short reading.sole other p ∙ sym c.from.ensures;
       published = c.publish.ensures;
     }

@@ -1,10 +1,10 @@
-use Rattle.std.proofs.Common.{◌-◌, length}
+use Rattle.std.proofs.Common.{◌≡◌, ◌-◌, length}
 use Rattle.scheme_file.specs.Passes.{Upto}
 use Rattle.scheme_file.proofs.checking.check.Given as goal
 
 -- the records before are good
-abbrev pub invariant-loop-place : goal.invariant-loop-place
-invariant-loop-place l = Upto l.bytes l.place l.at l.records
+abbrev pub invariant-loop-records : goal.invariant-loop-records
+invariant-loop-records l = (l.records.bytes.now ≡ l.bytes) × Upto l.bytes l.records.place l.records.at l.records.index
 
-abbrev pub decreases-loop-place : goal.decreases-loop-place
-decreases-loop-place l = length l.bytes - l.at
+abbrev pub decreases-loop-records : goal.decreases-loop-records
+decreases-loop-records l = length l.bytes - l.records.at

@@ -1,19 +1,23 @@
-use Rattle.std.proofs.Common.{◌≡◌, ◌+◌, ◌≤◌, length, drop, is_some, Some, sym, ap, ◌∙◌, arith, rules}
-use Rattle.std.proofs.lemmas.List.{length-drop, places}
+use Rattle.std.proofs.Common.{◌≡◌, is_some, Some, None, refl, sym, ap, ◌∙◌, inl, inr, rules}
+use Rattle.std.proofs.lemmas.Result.{err_from_is_err_and}
 use Rattle.scheme_file.specs.Kinds.{named}
-use Rattle.scheme_file.specs.Rules.{size, code}
-use Rattle.scheme_file.proofs.Frames.{value_two, body_part}
+use Rattle.scheme_file.specs.Rules.{code}
+use Rattle.scheme_file.proofs.Frames.{cut_frame}
 use Rattle.scheme_file.proofs.checking.frame.Goals as goal
+
+pub returns-in_err-kind : goal.returns-in_err-kind
+returns-in_err-kind c =
+    let cut = cut_frame c.args.rest.now c.in_ok-size.size.now c.in_ok-size.after.now c.in_ok-record.record.now c.in_ok-code.code.now c.in_ok-code.body.now
+    c.from_bytes-size.result (search rules) c.from_bytes-size.ensures (search rules) (search rules)
+    in
+    let p = err_from_is_err_and c.from_residual-in_err-kind.result c.from_residual-in_err-kind.ensures.1 in
+    let none : named (code c.args.rest.now) ≡ None = ap named (cut.2 ∙ sym c.from_bytes.ensures) ∙ c.in_err-kind.ensures in
+    rw (p.1, p.2) (inr (cut.0, inl (λ kept. let some = rw none at kept.1 in cc, refl)))
 
 pub returns : goal.returns
 returns c =
-    let rest = c.args.rest.now in
-    let s = c.from_le_bytes-size.result in
-    let long : s + 2 ≤ length rest = search rules in
-    let sized : size rest ≡ s = value_two rest (omega arith) ∙ sym c.from_le_bytes-size.ensures in
-    let two : 2 ≤ s = search rules in
-    let coded : code rest ≡ c.from_le_bytes.result =
-    value_two (drop 2 rest) (simp length-drop (omega arith)) ∙ search (rules, places)
+    let cut = cut_frame c.args.rest.now c.in_ok-size.size.now c.in_ok-size.after.now c.in_ok-record.record.now c.in_ok-code.code.now c.in_ok-code.body.now
+    c.from_bytes-size.result (search rules) c.from_bytes-size.ensures (search rules) (search rules)
     in
-    let known : named (code rest) ≡ Some c.in_ok-kind.kind = ap named coded ∙ search rules in
-    (((omega arith, omega arith), ((omega arith, ap is_some known), tt)), (known, rw sized (body_part rest s long)))
+    let known : named (code c.args.rest.now) ≡ Some c.in_ok-kind.kind = ap named (cut.2 ∙ sym c.from_bytes.ensures) ∙ c.in_ok-kind.ensures in
+    ((cut.0, ((cut.1, ap is_some known), tt)), (known, cut.3))

@@ -1,24 +1,18 @@
-use Rattle.std.proofs.Common.{◌≤◌, length, refl, arith}
-use Rattle.std.proofs.ByRecursion.{All-get_or, All-more}
-use Rattle.std.proofs.lemmas.List.{take_all}
+use Rattle.std.proofs.Common.{ℕ, ◌≤◌, rules}
+use Rattle.std.proofs.lemmas.Iterator.{YieldsList-from_slice, cases_from_all}
+use Rattle.std.proofs.lemmas.List.Elements.{All-from_all_within, recursion_from_All}
+use borrow.Author.Tests.{tests}
 use Rattle.scheme_file.proofs.checking.readable.Goals as goal
-use Rattle.scheme_file.proofs.checking.readable.Goals.{then-b-lt32-via-then-b-lt32, then-b-lt32-via-else-b-lt32+then-b-gt126}
 
-pub returns-then-b-lt32 : goal.returns-then-b-lt32
-returns-then-b-lt32 c = (
-  refl,
-  λ text.
-      let fits = All-get_or (λ b. (32 ≤ b) × (b ≤ 126)) c.args.name.now c.loop-b.b-index 0 (omega arith) text in
-      elim c.then-b-lt32.branch [
-        | then-b-lt32-via-then-b-lt32 w ↦ omega arith
-        | then-b-lt32-via-else-b-lt32+then-b-gt126 w ↦ omega arith
-      ],
-)
+-- a byte of a name, and another byte
+abbrev Fits : ℕ → Type 0
+Fits b = (32 ≤ b) × (b ≤ 126)
 
-pub loop-b-preserved : goal.loop-b-preserved
-loop-b-preserved c =
-    All-more (λ b. (32 ≤ b) × (b ≤ 126)) c.args.name.now c.loop-b.b-index 0 (omega arith) c.loop-b.invariant
-    (c.if-b-lt32.false, c.if-b-gt126.false)
+abbrev Misfits : ℕ → Type 0
+Misfits b = Fits b → ⊥
 
-pub returns : goal.returns
-returns c = let all : length c.args.name.now ≤ c.loop-b.b-index = omega arith in rw take_all at c.loop-b.invariant
+pub returns-then-all : goal.returns-then-all
+returns-then-all c =
+    let name = c.args.name.now in
+    let cases = cases_from_all _ _ _ Fits Misfits c.all.ensures.ran (YieldsList-from_slice name (cc)) (λ x q k. search (rules, tests)) (λ x q k. search (rules, tests)) in
+    recursion_from_All Fits name (All-from_all_within Fits name (rw c.if-all.true at cases))

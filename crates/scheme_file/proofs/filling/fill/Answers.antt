@@ -1,5 +1,4 @@
-use Rattle.std.proofs.Common.{take, sym, ap, ◌∙◌, subst, arith}
-use Rattle.std.proofs.lemmas.List.{length-take-le}
+use Rattle.std.proofs.Common.{length, sym, ap, ◌∙◌, subst, arith}
 use Rattle.scheme.specs.Edits.{with_wanted}
 use Rattle.scheme.specs.Task.{Task}
 use Rattle.scheme_file.specs.Bytes.{le}
@@ -9,58 +8,20 @@ use Rattle.scheme_file.proofs.filling.fill.Goals as goal
 
 pub fill_works-at-requires : goal.fill_works-at-requires
 fill_works-at-requires c =
-    let n = c.args.counts.items in
-    let rows = c.fill_items-at.new.rows in (
-      c.requires.0,
-      ap (λ (k : Task). k.works) c.open.ensures,
-      works_begin (take n rows) _ n _ (length-take-le n rows (omega (arith, c.requires.1))) (c.fill_items-at.ensures.filled _ c.requires.2),
-    )
-
-pub overflow_add-at : goal.overflow_add-at
-overflow_add-at c =
-    let m = c.args.counts.works in
-    let rows = c.fill_works-at.new.rows in
-    let t = works_end (take m rows) _ _ m (length-take-le m rows (omega (arith, c.requires.0))) c.fill_works-at.ensures.filled in
-    omega (arith, t.room, c.well_formed)
-
-pub long-requires : goal.long-requires
-long-requires c =
-    let m = c.args.counts.works in
-    let rows = c.fill_works-at.new.rows in
-    let t = works_end (take m rows) _ _ m (length-take-le m rows (omega (arith, c.requires.0))) c.fill_works-at.ensures.filled in
-    omega (arith, t.room)
-
-pub overflow_add-at-2 : goal.overflow_add-at-2
-overflow_add-at-2 c =
-    let m = c.args.counts.works in
-    let rows = c.fill_works-at.new.rows in
-    let t = works_end (take m rows) _ _ m (length-take-le m rows (omega (arith, c.requires.0))) c.fill_works-at.ensures.filled in
-    omega (arith, t.room, c.well_formed)
-
-pub long-requires-2 : goal.long-requires-2
-long-requires-2 c =
-    let m = c.args.counts.works in
-    let rows = c.fill_works-at.new.rows in
-    let t = works_end (take m rows) _ _ m (length-take-le m rows (omega (arith, c.requires.0))) c.fill_works-at.ensures.filled in
-    omega (arith, t.room)
+    let items = c.fill_items-at.new.rows in
+    (ap (λ (k : Task). k.works) c.open.ensures, works_begin items _ (length c.args.items.now) _ (omega arith) (c.fill_items-at.ensures _ c.requires))
 
 pub returns : goal.returns
 returns c =
-    let m = c.args.counts.works in
     let rows = c.fill_works-at.new.rows in
     let works = c.fill_works-at.ensures.filled in
-    let t = works_end (take m rows) _ _ m (length-take-le m rows (omega (arith, c.requires.0))) works in
-    let listed = c.fill_items-at.ensures.filled _ c.requires.2 in
-    let s = c.from_bits.result in
-    let w = c.from_bits-2.result in
-    let k = c.want_all.ensures ∙ ap (λ (x : Task). with_wanted x w) c.stand_all.ensures in
-    record {
-      read =
-          subst (λ (x : Task). Reads c.args.bytes.now x (take m rows) (take c.args.counts.items c.fill_items-at.new.rows)) (sym k)
-          (whole_read listed.4 works.4 t s w
-          (ap (le 8) c.from_bits.ensures ∙ c.long.ensures.bytes ∙ t.first)
-          (ap (le 8) c.from_bits-2.ensures ∙ c.long-2.ensures.bytes ∙ t.second)
-          (omega (arith, c.from_bits.ensures)) (omega (arith, c.from_bits-2.ensures)));
-      works = c.fill_works-at.ensures.later;
-      items = c.fill_items-at.ensures.later;
-    }
+    let t = works_end rows _ _ (length c.args.works.now) (omega arith) works in
+    let listed = c.fill_items-at.ensures _ c.requires in
+    let s = c.from_bits-standing.result in
+    let w = c.from_bits-wanted.result in
+    let k = c.add_all-2.ensures ∙ ap (λ (x : Task). with_wanted x w) c.add_all.ensures in
+    subst (λ (x : Task). Reads c.args.bytes.now x rows c.fill_items-at.new.rows) (sym k)
+    (whole_read listed.4 works.4 t s w
+    (ap (le 8) c.from_bits-standing.ensures ∙ c.number_at.ensures.bytes ∙ t.first)
+    (ap (le 8) c.from_bits-wanted.ensures ∙ c.number_at-2.ensures.bytes ∙ t.second)
+    (omega (arith, c.from_bits-standing.ensures)) (omega (arith, c.from_bits-wanted.ensures)))

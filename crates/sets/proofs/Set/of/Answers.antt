@@ -1,28 +1,18 @@
-use Rattle.std.proofs.Common.{ℕ, ◌<◌, List, sym, subst, inl, inr, ⊎_elim}
-use Rattle.std.proofs.lemmas.List.{take_all}
+use Rattle.std.proofs.Common.{◌<◌, List, ℕ, sym, subst, rules}
+use Rattle.std.proofs.lemmas.Fn.{fold_over, fronts}
+use Rattle.std.proofs.lemmas.Iterator.{YieldsList-from_slice}
 use Rattle.sets.specs.declared.Set.{Set}
 use Rattle.sets.specs.Listed.{In}
 use Rattle.sets.specs.Member.{Has, Members}
 use Rattle.sets.proofs.Laws.{none_has}
-use Rattle.sets.proofs.Lists.{in_more}
+use Rattle.sets.proofs.Lists.{set_more}
 use Rattle.sets.proofs.Set.of.Goals as goal
-
-pub loop-k-init : goal.loop-k-init
-loop-k-init c k =
-    let At : Set → Type 0 = λ s. Has s k in
-    (λ y. absurd (none_has k (subst At c.empty-set.ensures y)), λ p. absurd p.0)
-
-pub loop-k-preserved : goal.loop-k-preserved
-loop-k-preserved c k =
-    let more = in_more k c.args.numbers.now c.loop-k.k-index c.loop-k-test.true in
-    let before = c.loop-k.invariant k in
-    let Room : ℕ → Type 0 = λ n. n < 64 in (
-      λ y. ⊎_elim (λ z. let p = before.0 z in (more.1 (inl p.0), p.1)) (λ p. (more.1 (inr p.0), subst Room (sym p.0) p.1))
-          ((c.with-set.ensures k).0 y),
-      λ p. (c.with-set.ensures k).1 (⊎_elim (λ y. inl (before.1 (y, p.1))) (λ e. inr (e, subst Room e p.1)) (more.0 p.0)),
-    )
 
 pub returns : goal.returns
 returns c =
-    let All : List ℕ → Type 0 = λ xs. Members c.loop-k.set (λ k. In k xs × (k < 64)) in
-    subst All (take_all c.loop-k.k-index c.args.numbers.now c.loop-k-test.false) c.loop-k.invariant
+    let Upto : List ℕ → Set → Type 0 = λ ys s. Members s (λ k. In k ys × (k < 64)) in
+    let None : Set → Type 0 = λ s. (k : ℕ) → Has s k → ⊥ in
+    let none = subst None (sym c.empty.ensures) none_has in
+    fold_over (fronts {A = ℕ}) (λ y. y.now) _ Upto _ (λ ys a x b f' before called. (set_more ys x.now 64 a b before (search rules), search rules))
+    c.iter.result c.args.numbers.now c.empty.result c.fold.result (YieldsList-from_slice {s = c.iter.result} c.args.numbers.now cc).runs
+    (λ k. (λ y. absurd (none k y), λ p. absurd p.0)) c.fold.ensures.ran

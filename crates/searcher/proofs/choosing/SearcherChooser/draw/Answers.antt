@@ -1,20 +1,20 @@
-use Rattle.std.proofs.Common.{List, subst}
+use Rattle.std.proofs.Common.{List, ◌∙◌, subst}
 use Rattle.sets.specs.declared.Set.{Set}
 use Rattle.chooser.specs.Least.{Draws}
 use Rattle.chooser.proofs.Trimming.{candidates_held}
 use Rattle.searcher.proofs.Walks.{searched_draws}
 use Rattle.searcher.proofs.choosing.SearcherChooser.draw.Goals as goal
 
-pub least-requires : goal.least-requires
-least-requires g c w h = ((c.candidates.ensures w).0 h).0.1
-
 pub returns : goal.returns
 returns g c =
     let t = g.T.Tariff.scale in
-    let prices = c.args.prices.now in
-    let sets = c.as_slice-sets.result.now in
-    let free = c.candidates.result in
-    let Drawn : List Set → Type 0 = λ kept. Draws t prices c.args.bars kept c.least.result.best in
-    subst Drawn c.as_slice-sets.ensures.value
-    (searched_draws t prices free sets c.args.bars (candidates_held t prices c.args.bars sets free c.candidates.ensures) c.least.result.best
-    c.least.ensures)
+    let draw = c.new.result in
+    let prices = draw.terms.prices.now in
+    let bars = draw.terms.bars in
+    let sets = draw.sets.now in
+    let found = c.least.result.best in
+    let kept = c.args.self.now.kept.sets.items in
+    let Drawn : List Set → Type 0 = λ xs. Draws t prices bars xs found in
+    subst (λ terms. Draws t terms.prices.now terms.bars kept found) c.new.ensures.terms
+    (subst Drawn (c.new.ensures.sets ∙ c.as_slice.ensures.value)
+    (searched_draws t prices draw.works sets bars (candidates_held t prices bars sets draw.works c.new.ensures.works) found c.least.ensures))

@@ -1,7 +1,0 @@
-use Rattle.std.proofs.Common.{◌<◌}
-use Rattle.sets.specs.Member.{Members}
-use Rattle.scheme.specs.Landmarks.{Leaves}
-use Rattle.scheme.proofs.landmarks.leaving.Given as goal
-
-abbrev pub invariant-loop-w : goal.invariant-loop-w
-invariant-loop-w l = Members l.found (λ w. (w < l.w) × Leaves l.works l.items w)
