@@ -26,7 +26,7 @@ returns-in-Ok g c =
     record {
       text = printed bytes k rows c.requires.reads.0 c.requires.reads.1 (Ok a) order;
       answered = tells bytes k rows c.requires.reads.0 c.requires.reads.1 _ listed g.C.Chooser.room _ _ (Ok a) order _ _ c.requires.opens c.empty.ensures
-          c.in-Ok.ensures.same c.in-Ok.ensures.promised;
+          c.in-Ok.ensures.asks.same c.in-Ok.ensures.asks.promised;
       published = subst Shown (sub-zero a.length) c.publish.ensures;
     }
 
@@ -44,6 +44,6 @@ returns-in-Err g c =
     record {
       text = printed bytes k rows c.requires.reads.0 c.requires.reads.1 (Err e) order;
       answered = tells bytes k rows c.requires.reads.0 c.requires.reads.1 _ listed g.C.Chooser.room _ _ (Err e) order _ _ c.requires.opens c.empty.ensures
-          c.in-Err.ensures.same c.in-Err.ensures.promised;
+          c.in-Err.ensures.asks.same c.in-Err.ensures.asks.promised;
       published = subst Shown c.from.ensures c.publish-in-Err.ensures;
     }
