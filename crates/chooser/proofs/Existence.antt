@@ -4,12 +4,12 @@ use native.Mathlib.Decide.{dec_lt}
 use Rattle.sets.specs.declared.Set.{Set}
 use Rattle.sets.specs.Member.{Meet, Sub, none}
 use Rattle.sets.proofs.Laws.{meet_or_not, sub_or_not, sub_le}
+use Rattle.sets.proofs.Decided.{both_decided}
 use Rattle.tariff.specs.Amounts.{Scale, All}
 use Rattle.tariff.proofs.Sums.{all_at}
 use Rattle.chooser.specs.Least.{Hitting, Least, Draws, Determined, Precedes}
 use Rattle.chooser.proofs.Trimming.{Candidates, candidates_least, candidates_none}
 use Rattle.chooser.proofs.Hits.{all_or_one, draws_unique}
-use Rattle.chooser.proofs.Parts.{both_or_not}
 use Rattle.chooser.proofs.Precedence.{precedes_reflexive, precedes_transitive, precedes_total}
 
 module _ {V : Type 0} (t : Scale V) (prices : List V) where
@@ -57,7 +57,7 @@ module _ {V : Type 0} (t : Scale V) (prices : List V) where
   module _ (bars : Set) (kept : List Set) (free : Set) (candidates : Candidates t prices bars kept free) where
     hits_or_not : (s : Set) → (Sub s free × All (Meet s) kept) ⊎ (Sub s free × All (Meet s) kept → ⊥)
     hits_or_not s =
-        both_or_not (⊎_elim inl (λ f. inr (λ sub. f.2 (sub f.0 f.1))) (sub_or_not s free))
+        both_decided (⊎_elim inl (λ f. inr (λ sub. f.2 (sub f.0 f.1))) (sub_or_not s free))
         (⊎_elim inl (λ f. inr (λ m. f.2 (all_at (Meet s) kept f.0 none f.1 m))) (all_or_one (Meet s) (meet_or_not s) none kept))
 
     number_below : (s : Set) → Sub s free → s.bits < suc free.bits

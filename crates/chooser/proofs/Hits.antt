@@ -3,10 +3,11 @@ use Rattle.std.proofs.Common.{◌≡◌, ℕ, suc, ◌<◌, ◌⊎◌, List, [],
 use Rattle.sets.specs.declared.Set.{Set}
 use Rattle.sets.specs.Member.{Has, Meet, Sub, none}
 use Rattle.sets.proofs.Laws.{none_has, meet_or_not}
+use Rattle.sets.proofs.Decided.{same_decided}
+use Rattle.sets.proofs.Parts.{less_one}
 use Rattle.tariff.specs.Amounts.{Scale, All, AtMost}
 use Rattle.tariff.proofs.Sums.{all_append, all_front, all_at}
 use Rattle.chooser.specs.Least.{Hitting, Least, Draws, Precedes, SetCapped, set_cost}
-use Rattle.chooser.proofs.Parts.{same_or_not, less_one}
 use Rattle.chooser.proofs.Precedence.{precedes_antisymmetric, precedes_proper, cost_of_precedes}
 
 -- P holds of every element, or there is one of which it does not
@@ -87,7 +88,7 @@ module _ {V : Type 0} (t : Scale V) (prices : List V) (bars : Set) where
       (λ f.
       let one : Set = get_or kept f.0 none in
       let only : (k : ℕ) → Has s k → Has one k → k ≡ w = λ k in-s in_one.
-      ⊎_elim (λ e. e) (λ ne. absurd (f.2 (k, (x.1 k).1 (in-s, ne), in_one))) (same_or_not k w)
+      ⊎_elim (λ e. e) (λ ne. absurd (f.2 (k, (x.1 k).1 (in-s, ne), in_one))) (same_decided k w)
       in
       let met : Meet s one = all_at (Meet s) kept f.0 none f.1 l.hitting.meets in
       (f.0, f.1, subst (Has one) (only met.0 met.1 met.2) met.2, only))

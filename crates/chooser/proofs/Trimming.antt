@@ -4,10 +4,11 @@ use native.Mathlib.Decide.{dec_lt}
 use Rattle.sets.specs.declared.Set.{Set}
 use Rattle.sets.specs.Member.{Has, Members, Meet, Sub, none}
 use Rattle.sets.proofs.Laws.{has_or_not, has_below, none_has, set_of}
+use Rattle.sets.proofs.Decided.{both_decided, not_decided}
+use Rattle.sets.proofs.Parts.{part_of}
 use Rattle.tariff.specs.Amounts.{Scale, All}
 use Rattle.chooser.specs.Least.{Allowed, Hitting, Least, Precedes, price}
 use Rattle.chooser.specs.Steps.{Gathered, Held}
-use Rattle.chooser.proofs.Parts.{both_or_not, not_or_so, part_of}
 use Rattle.chooser.proofs.Precedence.{precedes_sub, precedes_transitive}
 
 -- ---- gathering from one kept set after another
@@ -47,7 +48,7 @@ module _ {V : Type 0} (t : Scale V) (prices : List V) where
 
   all_or_not : (P : V → Type 0) → ((v : V) → P v ⊎ (P v → ⊥)) → (vs : List V) → All P vs ⊎ (All P vs → ⊥)
   all_or_not P decide [] = inl tt
-  all_or_not P decide (v ∷ vs) = both_or_not (decide v) (all_or_not P decide vs)
+  all_or_not P decide (v ∷ vs) = both_decided (decide v) (all_or_not P decide vs)
 
   pub allowed_or_not :
       ((v : V) → t.within v ⊎ (t.within v → ⊥)) → (bars : Set) (w : ℕ) → Allowed t prices bars w ⊎ (Allowed t prices bars w → ⊥)
@@ -55,7 +56,7 @@ module _ {V : Type 0} (t : Scale V) (prices : List V) where
       elim (dec_lt w (length prices)) [
         | yes lt ↦
             ⊎_elim
-            (λ p. ⊎_elim (λ not. inl (lt, p, not)) (λ so. inr (λ a. so a.2)) (not_or_so (has_or_not bars w)))
+            (λ p. ⊎_elim (λ not. inl (lt, p, not)) (λ so. inr (λ a. so a.2)) (not_decided (has_or_not bars w)))
             (λ not. inr (λ a. not a.1)) (all_or_not t.within decide (price prices w))
         | no ge ↦ inr (λ a. ge a.0)
       ]

@@ -4,17 +4,17 @@ use native.Mathlib.Decide.{dec_lt}
 use Rattle.sets.specs.declared.Set.{Set}
 use Rattle.sets.specs.Member.{Has, Members, none}
 use Rattle.sets.proofs.Laws.{has_or_not, lowest_below, members_end, same_set, none_has}
+use Rattle.sets.proofs.Decided.{both_decided, same_decided}
+use Rattle.sets.proofs.Parts.{added_if, less_one, sub_decided}
 use Rattle.scheme.specs.Task.{Task}
 use Rattle.scheme.specs.Reach.{Sufficient}
 use Rattle.scheme.specs.Orders.{Plan}
 use Rattle.scheme.specs.Landmarks.{Landmark}
-use Rattle.scheme.proofs.Decided.{added_if, both_decided, same_decided, sub_decided}
 use Rattle.scheme.proofs.Reaches.{sufficient_or_not}
 use Rattle.scheme.proofs.Ordered.{placed_exists}
 use Rattle.scheme.proofs.Drawing.{drawn_exists}
 use Rattle.tariff.specs.Amounts.{Scale, All}
 use Rattle.chooser.specs.Least.{Allowed, Least, Hitting, Draws, set_cost}
-use Rattle.chooser.proofs.Parts.{less_one}
 use Rattle.chooser.proofs.Trimming.{candidates_all}
 use Rattle.chooser.proofs.Existence.{least_exists}
 use Rattle.rules.specs.Rules.{Ending, Outcome, Unbarred, Run, last, full, more, Settled, at_once, from_none, anew, Asked, beyond, found, spent}

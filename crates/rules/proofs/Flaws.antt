@@ -5,10 +5,10 @@ use Rattle.sets.specs.declared.Set.{Set}
 use Rattle.sets.specs.Member.{Has, Sub}
 use Rattle.sets.specs.Listed.{In}
 use Rattle.sets.proofs.Laws.{has_or_not, same_members, sub_or_not}
+use Rattle.sets.proofs.Parts.{union_of}
 use Rattle.scheme.specs.Task.{Task, work}
 use Rattle.scheme.specs.Orders.{Carried, finished, onward, Plan}
 use Rattle.scheme.specs.Carrying.{LowestLacking}
-use Rattle.scheme.proofs.Decided.{union_of}
 use Rattle.tariff.specs.Amounts.{All}
 use Rattle.rules.specs.Rules.{Unbarred}
 use Rattle.rules.specs.Marks.{Flaw, Flawed, at_barred, at_lacking, at_end, later}

@@ -4,11 +4,12 @@ use Rattle.sets.specs.declared.Set.{Set}
 use Rattle.sets.specs.Member.{Has, Members, Meet, Sub}
 use Rattle.sets.specs.Listed.{In}
 use Rattle.sets.proofs.Laws.{has_or_not}
+use Rattle.sets.proofs.Decided.{below_decided}
+use Rattle.sets.proofs.Parts.{part_of}
 use Rattle.scheme.specs.Task.{Task}
 use Rattle.scheme.specs.Reach.{Sufficient}
 use Rattle.scheme.specs.Orders.{Plan, Placed}
 use Rattle.scheme.specs.Landmarks.{Landmark}
-use Rattle.scheme.proofs.Decided.{below_decided}
 use Rattle.scheme.proofs.Reaches.{sufficient_grows}
 use Rattle.scheme.proofs.Ordered.{Once, placed_from, placed_once, placed_plan, sufficient_by_plan}
 use Rattle.scheme.proofs.Drawing.{landmark_meets}
@@ -16,7 +17,6 @@ use Rattle.tariff.specs.Amounts.{Scale, All, AtMost}
 use Rattle.tariff.proofs.Order.{at_most_chained, less_or_equal}
 use Rattle.tariff.proofs.Sums.{all_back, all_take}
 use Rattle.chooser.specs.Least.{Allowed, Capped, Hitting, Least, Precedes, set_cost, order_cost}
-use Rattle.chooser.proofs.Parts.{part_of}
 use Rattle.chooser.proofs.Precedence.{precedes_sub, precedes_proper, precedes_transitive, precedes_antisymmetric, cost_of_precedes}
 use Rattle.chooser.proofs.OrderCosts.{Distinct, works_of, cost_distinct, cost_order}
 use Rattle.rules.specs.Rules.{Unbarred}

@@ -3,10 +3,10 @@ use Rattle.std.proofs.Common.{ℕ, ◌<◌, ◌⊎◌, List, length}
 use Rattle.sets.specs.declared.Set.{Set}
 use Rattle.sets.specs.Member.{Has, Members}
 use Rattle.sets.proofs.Laws.{has_or_not, set_of}
+use Rattle.sets.proofs.Decided.{not_decided}
 use Rattle.scheme.specs.Task.{Task}
 use Rattle.scheme.specs.Reach.{Sufficient}
 use Rattle.scheme.specs.Orders.{Plan}
-use Rattle.scheme.proofs.Decided.{not_decided}
 use Rattle.scheme.proofs.Reaches.{sufficient_grows, sufficient_or_not}
 use Rattle.scheme.proofs.Ordered.{placed_exists, placed_plan, sufficient_by_plan}
 use Rattle.rules.specs.Rules.{Unbarred}

@@ -1,4 +1,3 @@
-pub mod Decided
 pub mod Reaches
 mod Carryings
 mod Placings

@@ -2,8 +2,8 @@
 use Rattle.std.proofs.Common.{◌≡◌, ℕ, ◌<◌, ◌⊎◌, List, IfSome, Some, None, MatchOption, Option, sym, subst, inl, inr, ⊎_elim}
 use Rattle.sets.specs.declared.Set.{Set}
 use Rattle.sets.specs.Member.{Has, Members, Meet, Sub}
+use Rattle.sets.proofs.Parts.{less_one}
 use Rattle.tariff.specs.Amounts.{All}
-use Rattle.chooser.proofs.Parts.{less_one}
 use Rattle.searcher.specs.declared.node.Node.{Node}
 use Rattle.searcher.specs.Costs.{Own, Paired, within, tied, Picked, Taken}
 use Rattle.searcher.specs.Nodes.{Inside, One}

@@ -8,10 +8,10 @@ use Rattle.sets.specs.declared.iter.SetIter.{SetIter}
 use Rattle.sets.specs.Steps.{Next}
 use Rattle.sets.specs.declared.Set.{Set}
 use Rattle.sets.specs.Member.{Has, Members, Sub}
+use Rattle.sets.proofs.Decided.{same_decided}
 use Rattle.tariff.specs.Amounts.{Scale, AtMost}
 use Rattle.tariff.proofs.Order.{at_most_reflexive, at_most_of_less, at_most_chained}
 use Rattle.chooser.specs.Least.{Capped, SetCapped, set_cost}
-use Rattle.chooser.proofs.Parts.{same_or_not}
 use Rattle.chooser.proofs.SetCosts.{cost_only}
 use Rattle.searcher.specs.Costs.{Cheaper, Cheapest, work_cost}
 
@@ -53,7 +53,7 @@ module _ {V : Type 0} (t : Scale V) (prices : List V) where
     low = lt;
     least = λ capped k y.
         ⊎_elim (λ e. inr (subst (λ (j : ℕ). AtMost t (work_cost t prices w) (work_cost t prices j)) (sym e) (at_most_reflexive t (work_cost t prices w))))
-        (λ ne. inl ((m k).1 (y, ne))) (same_or_not k w);
+        (λ ne. inl ((m k).1 (y, ne))) (same_decided k w);
   }
 
   pub tried_more :
@@ -68,7 +68,7 @@ module _ {V : Type 0} (t : Scale V) (prices : List V) where
         ⊎_elim
         (λ z.
         ⊎_elim (λ e. inr (subst (λ (j : ℕ). AtMost t (work_cost t prices r) (work_cost t prices j)) (sym e) both.1))
-        (λ ne. inl ((m k).1 (z, ne))) (same_or_not k w))
+        (λ ne. inl ((m k).1 (z, ne))) (same_decided k w))
         (λ le. inr (at_most_chained t _ _ _ both.0 le)) (so_far.least capped k y);
   }
 

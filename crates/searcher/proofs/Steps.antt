@@ -8,9 +8,9 @@ use lib.Count.{ones}
 use Rattle.sets.specs.declared.Set.{Set}
 use Rattle.sets.specs.Member.{Has, Members, Meet, Sub}
 use Rattle.sets.proofs.Laws.{has_or_not, meet_or_not, count_without}
+use Rattle.sets.proofs.Decided.{same_decided}
 use Rattle.tariff.specs.Amounts.{Scale, All}
 use Rattle.chooser.specs.Least.{Precedes}
-use Rattle.chooser.proofs.Parts.{same_or_not}
 use Rattle.chooser.proofs.Precedence.{precedes_sub, precedes_transitive, precedes_of_not}
 use Rattle.searcher.specs.declared.node.Node.{Node}
 use Rattle.searcher.specs.Nodes.{Inside, Of, One, Unmet, Best, Ahead, Better, Settled, Closed}
@@ -121,7 +121,7 @@ covered n a b w lt more fewer same others o inside =
       chosen = λ k h. ⊎_elim (inside.chosen k) (λ e. subst (Has o) (sym e.0) held) ((more k).0 h);
       rest = λ k h.
           ⊎_elim (λ e. inl ((more k).1 (inr (e, lt))))
-          (λ ne. ⊎_elim (λ z. inl ((more k).1 (inl z))) (λ z. inr ((fewer k).1 (z, ne))) (inside.rest k h)) (same_or_not k w);
+          (λ ne. ⊎_elim (λ z. inl ((more k).1 (inl z))) (λ z. inr ((fewer k).1 (z, ne))) (inside.rest k h)) (same_decided k w);
     }))
     (λ out. inr (record {
       chosen = λ k h. inside.chosen k (subst (λ (s : Set). Has s k) same h);

@@ -8,9 +8,11 @@ use Rattle.sets.specs.declared.iter.SetIter.{SetIter}
 use Rattle.sets.specs.Steps.{Next}
 use Rattle.sets.specs.Member.{Has, Members, Sub, none}
 use Rattle.sets.proofs.Laws.{has_or_not, none_has}
+use Rattle.sets.proofs.Decided.{same_decided}
+use Rattle.sets.proofs.Parts.{less_one}
 use Rattle.tariff.specs.Amounts.{Scale}
 use Rattle.chooser.specs.Least.{Precedes}
-use Rattle.chooser.proofs.Parts.{less_one, put_back, same_or_not}
+use Rattle.chooser.proofs.Parts.{put_back}
 use Rattle.chooser.proofs.Precedence.{precedes_sub, precedes_transitive, precedes_with}
 use Rattle.tabler.specs.Table.{Best, Earlier, Filled, Met, Turn, Unmet}
 use Rattle.tabler.proofs.Folds.{fold_along}
@@ -97,7 +99,7 @@ module _ {V : Type 0} (t : Scale V) (prices : List V) (free : Set) (sets : List 
               (λ ne.
               precedes_transitive t prices more best o earlier.before_a
               (so_far.first o h m v in-works (λ y. out ((left v).1 (y, ne))) has))
-              (same_or_not v w);
+              (same_decided v w);
         }
 
     module _

@@ -5,11 +5,11 @@ use Rattle.std.specs.List.{AllWithin, HoldsAt}
 use Rattle.sets.specs.declared.Set.{Set}
 use Rattle.sets.specs.Member.{Meet, Sub, none}
 use Rattle.sets.proofs.Laws.{has_or_not, meet_or_not}
+use Rattle.sets.proofs.Decided.{not_decided}
 use Rattle.tariff.specs.Amounts.{All, Scale}
 use Rattle.tariff.proofs.Sums.{all_at}
 use Rattle.chooser.specs.Least.{Precedes, SetCapped}
 use Rattle.chooser.proofs.Hits.{all_of_places}
-use Rattle.chooser.proofs.Parts.{not_or_so}
 use Rattle.chooser.proofs.Precedence.{precedes_of_not, precedes_or_not, precedes_reflexive}
 use Rattle.tabler.specs.Table.{Best, Earlier, Filled}
 
@@ -60,6 +60,6 @@ module _ {V : Type 0} (t : Scale V) (prices : List V) (free : Set) where
         (SetCapped t prices a → SetCapped t prices b → Precedes t prices a b → ⊥) → Sub a free → Sub b free → Earlier t prices a b b
     earlier_not shows in-a in-b = record {
       one = inr refl;
-      before_a = precedes_of_not t prices a b (capped (not_or_so (precedes_or_not t prices a b)) shows in-a in-b);
+      before_a = precedes_of_not t prices a b (capped (not_decided (precedes_or_not t prices a b)) shows in-a in-b);
       before_b = precedes_reflexive t prices b;
     }

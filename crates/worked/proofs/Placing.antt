@@ -5,10 +5,11 @@ use Rattle.sets.specs.declared.Set.{Set}
 use Rattle.sets.specs.Listed.{has_bit}
 use Rattle.sets.specs.Member.{Has, Members}
 use Rattle.sets.proofs.Laws.{only_members, union_members}
+use Rattle.sets.proofs.Parts.{less_one}
 use Rattle.scheme.specs.declared.Work.{Work}
 use Rattle.scheme.specs.Task.{work}
 use Rattle.scheme.specs.Orders.{Placed, none_left, placing}
-use Rattle.chooser.proofs.Parts.{less_one, put_back}
+use Rattle.chooser.proofs.Parts.{put_back}
 use Rattle.chooser.proofs.UnionNumbers.{number_union}
 use Rattle.worked.proofs.Tests.{at_lowest, at_lowest_tells, has_tells, sub?, sub_tells, union}
 

@@ -5,10 +5,10 @@ use Rattle.sets.specs.declared.Set.{Set}
 use Rattle.sets.specs.Listed.{has_bit}
 use Rattle.sets.specs.Member.{Has, Sub, none}
 use Rattle.sets.proofs.Laws.{same_members, sub_le, union_members}
+use Rattle.sets.proofs.Parts.{sub_decided, union_larger, union_of}
 use Rattle.scheme.specs.declared.Work.{Work}
 use Rattle.scheme.specs.Task.{Task, work}
 use Rattle.scheme.specs.Reach.{Closed, Reach, Sufficient}
-use Rattle.scheme.proofs.Decided.{sub_decided, union_of, union_larger}
 use Rattle.scheme.proofs.Reaches.{sufficient_by_reach, reach_of_sufficient}
 use Rattle.worked.proofs.Tests.{at_lowest, at_lowest_tells, has_tells, sub?, sub_tells, union}
 
