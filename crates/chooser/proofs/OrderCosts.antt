@@ -5,6 +5,7 @@ use Rattle.sets.specs.declared.Set.{Set}
 use Rattle.sets.specs.Listed.{In, Rising, Listed}
 use Rattle.sets.specs.Member.{Has, Members, none}
 use Rattle.sets.proofs.Laws.{has_or_not, none_has, only_members, union_members}
+use Rattle.sets.proofs.Lists.{Distinct}
 use Rattle.sets.proofs.Parts.{less_one}
 use Rattle.tariff.specs.Amounts.{Scale, AtMost, sum}
 use Rattle.tariff.proofs.Joins.{at_most_joined_left, at_most_join_left}
@@ -12,11 +13,6 @@ use Rattle.tariff.proofs.Order.{at_most_chained, at_most_of_equal}
 use Rattle.tariff.proofs.Sums.{sum_append}
 use Rattle.chooser.specs.Least.{price, priced, order_cost, set_cost}
 use Rattle.chooser.proofs.SetCosts.{cost_empty, cost_same, cost_out}
-
--- no work stands twice
-abbrev pub Distinct : List ℕ → Type 0
-Distinct [] = Unit {0}
-Distinct (w ∷ rest) = (In w rest → ⊥) × Distinct rest
 
 -- the set of an order's works
 pub works_of : (order : List ℕ) → (s : Set) × Members s (λ k. In k order)

@@ -53,7 +53,11 @@ impl Choosers {
 
     /// Checks that both draw the same set. A failure names the case.
     fn draw_alike<T: Tariff>(&self, rt: &impl Abort, terms: &Terms<'_, T>, name: &str) {
-        assert_eq!(rt; self.tabler.draw(terms), self.searcher.draw(terms), "{name}");
+        assert_eq!(rt;
+            self.tabler.draw(terms),
+            self.searcher.draw(terms),
+            "{name}"
+        );
     }
 }
 

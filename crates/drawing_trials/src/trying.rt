@@ -17,8 +17,10 @@ pub fn least_by_trial<T: Tariff>(terms: &Terms<'_, T>, kept: &[Set], works: usiz
 
 /// Whether every work of a set has a price within the ceiling and is not barred.
 fn is_allowed<T: Tariff>(terms: &Terms<'_, T>, set: Set) -> bool {
-    set.iter()
-        .all(|w| matches!(terms.prices.get(w), Some(price) if T::is_price(*price)) && !terms.bars.contains(w))
+    set.iter().all(
+        |w| matches!(terms.prices.get(w), Some(price) if T::is_price(*price))
+            && !terms.bars.contains(w),
+    )
 }
 
 fn meets_all(set: Set, kept: &[Set]) -> bool {

@@ -6,16 +6,12 @@ use Rattle.std.proofs.lemmas.Iterator.Consumers.{YieldsList-end, YieldsList-from
 use Rattle.sets.specs.declared.Set.{Set}
 use Rattle.sets.specs.declared.iter.SetIter.{SetIter}
 use Rattle.sets.specs.Listed.{members}
-use Rattle.sets.specs.Steps.{Next}
-use Rattle.sets.proofs.Listing.{members_next, members_none}
-
-abbrev pub steps : SetIter → Option ℕ → SetIter → Type 0
-steps s r t = Next s.rest r t.rest
+use Rattle.sets.proofs.Listing.{nexts, members_next, members_none}
 
 -- a set's members come one after another
-members_yielded : (it : SetIter) → YieldsList steps (λ i. i) it (members it.rest)
+members_yielded : (it : SetIter) → YieldsList nexts (λ i. i) it (members it.rest)
 members_yielded it =
-    YieldsList-from_shown steps (λ i. i) (λ s. members s.rest) (λ s t none. ap length (members_none s.rest none.0))
+    YieldsList-from_shown nexts (λ i. i) (λ s. members s.rest) (λ s t none. ap length (members_none s.rest none.0))
     (λ s i t step. members_next s.rest t.rest i step) it
 
 each_itself : (xs : List ℕ) → map (λ i. i) xs ≡ xs
@@ -24,7 +20,7 @@ each_itself (x ∷ xs) = ap (λ ys. x ∷ ys) (each_itself xs)
 
 -- once none is left, the members have come
 pub all_yielded : (it first last less : SetIter) (s : Set) (xs : List ℕ) (r : Option ℕ) →
-    it ≡ first → first.rest ≡ s → Yields steps it xs last → r ≡ None → steps last r less → xs ≡ members s
+    it ≡ first → first.rest ≡ s → Yields nexts it xs last → r ≡ None → nexts last r less → xs ≡ members s
 all_yielded it first last less s xs r begun whole came none step =
     sym (each_itself xs)
     ∙ (YieldsList-end (members_yielded it) xs last came r less none step).0

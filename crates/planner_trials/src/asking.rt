@@ -14,10 +14,31 @@ const KEPT: [u64; 5] = [64, 48, 8, 5, 3];
 #[test]
 fn one_question_after_another(rt: HostRuntime) -> Result<(), Fail> {
     let mut planner = junction(&rt, rt.alloc())?;
-    expect(&rt, &mut planner, terms(&POUNDS, 0), &[1, 2, 3, 5, 6], 1850, 6)?;
+    expect(
+        &rt,
+        &mut planner,
+        terms(&POUNDS, 0),
+        &[1, 2, 3, 5, 6],
+        1850,
+        6,
+    )?;
     expect_kept(&rt, &planner, &KEPT)?;
-    expect(&rt, &mut planner, terms(&POUNDS, 0), &[1, 2, 3, 5, 6], 1850, 1)?;
-    expect(&rt, &mut planner, terms(&POUNDS, 32), &[1, 2, 3, 4, 6], 2100, 1)?;
+    expect(
+        &rt,
+        &mut planner,
+        terms(&POUNDS, 0),
+        &[1, 2, 3, 5, 6],
+        1850,
+        1,
+    )?;
+    expect(
+        &rt,
+        &mut planner,
+        terms(&POUNDS, 32),
+        &[1, 2, 3, 4, 6],
+        2100,
+        1,
+    )?;
     expect(&rt, &mut planner, terms(&POUNDS, 2), &[0, 3, 5, 6], 1950, 1)?;
     unanswered(&rt, &mut planner, terms(&POUNDS, 64), 7, 9)?;
     expect_kept(&rt, &planner, &KEPT)
@@ -45,7 +66,7 @@ fn expect_by_hours(
 fn hours_first(rt: HostRuntime) -> Result<(), Fail> {
     let heap = rt.alloc();
     let mut planner = Planner::with_room(HoursFirst, Searcher::new(heap)?, heap)?;
-    enter_works(&mut planner)?;
+    enter_works(heap, &mut planner)?;
     want(&rt, &mut planner, 4)?;
     expect_by_hours(&rt, &mut planner)
 }
@@ -54,7 +75,7 @@ fn hours_first(rt: HostRuntime) -> Result<(), Fail> {
 fn nothing_wanted(rt: HostRuntime) -> Result<(), Fail> {
     let mut planner = opened(rt.alloc())?;
     expect(&rt, &mut planner, terms(&[], 0), &[], 0, 1)?;
-    enter_works(&mut planner)?;
+    enter_works(rt.alloc(), &mut planner)?;
     expect(&rt, &mut planner, terms(&POUNDS, 0), &[], 0, 1)
 }
 
@@ -67,7 +88,14 @@ fn stand(rt: &impl Abort, planner: &mut Planner<Pounds, Searcher>) -> Result<(),
 #[test]
 fn an_item_that_stands(rt: HostRuntime) -> Result<(), Fail> {
     let mut planner = junction(&rt, rt.alloc())?;
-    expect(&rt, &mut planner, terms(&POUNDS, 0), &[1, 2, 3, 5, 6], 1850, 6)?;
+    expect(
+        &rt,
+        &mut planner,
+        terms(&POUNDS, 0),
+        &[1, 2, 3, 5, 6],
+        1850,
+        6,
+    )?;
     stand(&rt, &mut planner)?;
     expect_kept(&rt, &planner, &[])?;
     expect(&rt, &mut planner, terms(&POUNDS, 0), &[], 0, 1)
@@ -86,7 +114,14 @@ fn idle_calls(rt: &impl Abort, planner: &mut Planner<Pounds, Searcher>) -> Resul
 #[test]
 fn what_keeps_the_landmarks(rt: HostRuntime) -> Result<(), Fail> {
     let mut planner = junction(&rt, rt.alloc())?;
-    expect(&rt, &mut planner, terms(&POUNDS, 0), &[1, 2, 3, 5, 6], 1850, 6)?;
+    expect(
+        &rt,
+        &mut planner,
+        terms(&POUNDS, 0),
+        &[1, 2, 3, 5, 6],
+        1850,
+        6,
+    )?;
     idle_calls(&rt, &mut planner)?;
     want(&rt, &mut planner, 3)?;
     expect_kept(&rt, &planner, &KEPT)?;

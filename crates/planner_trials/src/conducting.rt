@@ -73,7 +73,7 @@ fn two_choosers(rt: HostRuntime) -> Result<(), Fail> {
     let heap = rt.alloc();
     let mut one = junction(&rt, heap)?;
     let mut other = Planner::with_room(Pounds, Tabler::new(heap)?, heap)?;
-    enter_works(&mut other)?;
+    enter_works(heap, &mut other)?;
     want(&rt, &mut other, 4)?;
     agree(&rt, &mut one, &mut other, 0)?;
     agree(&rt, &mut one, &mut other, 32)?;

@@ -33,12 +33,26 @@ fn read(
 #[test]
 fn read_and_written_back(rt: HostRuntime) -> Result<(), Fail> {
     let mut planner = junction(&rt, rt.alloc())?;
-    expect(&rt, &mut planner, terms(&POUNDS, 0), &[1, 2, 3, 5, 6], 1850, 6)?;
+    expect(
+        &rt,
+        &mut planner,
+        terms(&POUNDS, 0),
+        &[1, 2, 3, 5, 6],
+        1850,
+        6,
+    )?;
     let mut works = [WorkRow::default(); 2];
     let mut items = [ItemRow::default(); 0];
     read(&rt, &mut planner, &mut works, &mut items)?;
     expect_kept(&rt, &planner, &[])?;
-    expect(&rt, &mut planner, terms(&[7, 65_535], 0), &[0, 1], 65_542, 3)?;
+    expect(
+        &rt,
+        &mut planner,
+        terms(&[7, 65_535], 0),
+        &[0, 1],
+        65_542,
+        3,
+    )?;
     let mut out = [5u8; 84];
     assert!(rt; planner.write(&works, &items, &FILE, &mut out).is_ok());
     assert!(rt; out[0..83] == FILE[0..83]);
@@ -55,7 +69,10 @@ fn printed(
     text: Option<&[u8]>,
 ) -> Result<(), Fail> {
     let mut planner = opened(heap)?;
-    assert_eq!(rt; report_cheapest(&mut planner, file, page).is_ok(), text.is_some());
+    assert_eq!(rt;
+        report_cheapest(&mut planner, file, page).is_ok(),
+        text.is_some()
+    );
     let text = text.unwrap_or(b"");
     let (front, later) = page.split_at(text.len().min(page.len()));
     assert_eq!(rt; front, text);

@@ -41,14 +41,26 @@ fn verdicts(rt: HostRuntime) -> Result<(), Fail> {
     expect_kept(&rt, &planner, &[])?;
     expect_told(&rt, &mut planner, 0, &[0, 3, 5, 6], Verdict::Dearer(1950))?;
     expect_kept(&rt, &planner, &[64, 48, 8, 5, 3])?;
-    expect_told(&rt, &mut planner, 0, &[2, 1, 3, 5, 6], Verdict::Cheapest(1850))?;
+    expect_told(
+        &rt,
+        &mut planner,
+        0,
+        &[2, 1, 3, 5, 6],
+        Verdict::Cheapest(1850),
+    )?;
     expect_told(&rt, &mut planner, 2, &[0, 3, 5, 6], Verdict::Cheapest(1950))
 }
 
 #[test]
 fn a_repeated_work_is_charged_each_time(rt: HostRuntime) -> Result<(), Fail> {
     let mut planner = junction(&rt, rt.alloc())?;
-    expect_told(&rt, &mut planner, 0, &[1, 2, 3, 5, 6, 5], Verdict::Dearer(2000))
+    expect_told(
+        &rt,
+        &mut planner,
+        0,
+        &[1, 2, 3, 5, 6, 5],
+        Verdict::Dearer(2000),
+    )
 }
 
 #[test]

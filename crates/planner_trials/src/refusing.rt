@@ -21,7 +21,14 @@ fn questions(rt: HostRuntime) -> Result<(), Fail> {
     unanswered(&rt, &mut planner, terms(&POUNDS, 64), 6, 8)?;
     unanswered(&rt, &mut planner, terms(&POUNDS, 64), 7, 9)?;
     expect_kept(&rt, &planner, &[])?;
-    expect(&rt, &mut planner, terms(&TOP, 0), &[1, 2, 3, 5, 6], 66_685, 6)
+    expect(
+        &rt,
+        &mut planner,
+        terms(&TOP, 0),
+        &[1, 2, 3, 5, 6],
+        66_685,
+        6,
+    )
 }
 
 /// Marks, and checks the refusal's number.
@@ -57,7 +64,14 @@ fn uncopied(rt: &impl Abort, planner: &Planner<Pounds, Searcher>) -> Result<(), 
 #[test]
 fn landmarks(rt: HostRuntime) -> Result<(), Fail> {
     let mut planner = junction(&rt, rt.alloc())?;
-    expect(&rt, &mut planner, terms(&POUNDS, 0), &[1, 2, 3, 5, 6], 1850, 6)?;
+    expect(
+        &rt,
+        &mut planner,
+        terms(&POUNDS, 0),
+        &[1, 2, 3, 5, 6],
+        1850,
+        6,
+    )?;
     uncopied(&rt, &planner)?;
     expect_kept(&rt, &planner, &[64, 48, 8, 5, 3])
 }

@@ -34,7 +34,14 @@ fn one_more_landmark_than_the_capacity(rt: HostRuntime) -> Result<(), Fail> {
     let heap = rt.alloc();
     let mut planner = Planner::with_room(Pounds, Tabler::new(heap)?, heap)?;
     enter_apart(&rt, &mut planner, &NUMBERS[0..12])?;
-    expect(&rt, &mut planner, terms(&[1; 12], 0), &NUMBERS[0..12], 12, 13)?;
+    expect(
+        &rt,
+        &mut planner,
+        terms(&[1; 12], 0),
+        &NUMBERS[0..12],
+        12,
+        13,
+    )?;
     enter(&mut planner, 4096)?;
     want(&rt, &mut planner, 12)?;
     unanswered(&rt, &mut planner, terms(&[1; 13], 0), 13, 10)?;
@@ -55,7 +62,14 @@ fn a_run_that_starts_again(rt: HostRuntime) -> Result<(), Fail> {
     let mut planner = Planner::with_room(Pounds, Tabler::new(heap)?, heap)?;
     enter_apart(&rt, &mut planner, &NUMBERS[0..12])?;
     enter(&mut planner, 8190)?;
-    expect(&rt, &mut planner, terms(&LAST_DEAR, 0), &NUMBERS[0..12], 12, 13)?;
+    expect(
+        &rt,
+        &mut planner,
+        terms(&LAST_DEAR, 0),
+        &NUMBERS[0..12],
+        12,
+        13,
+    )?;
     want(&rt, &mut planner, 12)?;
     expect(&rt, &mut planner, terms(&LAST_DEAR, 0), &[0, 12], 101, 4)?;
     expect_kept(&rt, &planner, &[4096, 1])

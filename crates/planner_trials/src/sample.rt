@@ -11,9 +11,6 @@ use tariff::Tariff;
 use tariff::hours_first::HoursAndPounds;
 use tariff::pounds::Pounds;
 
-/// The needs and gives of Trench, Duct, Supply, Controller, Loops, Radar and Priority, as the numbers of the sets.
-const WORKS: [(u64, u64); 7] = [(0, 3), (0, 1), (0, 2), (3, 4), (1, 8), (4, 8), (12, 16)];
-
 pub const POUNDS: [u64; 7] = [900, 500, 300, 700, 400, 150, 200];
 
 const HOURS: [u64; 7] = [10, 6, 6, 2, 8, 0, 0];
@@ -39,9 +36,12 @@ pub fn terms(prices: &[u64], bars: u64) -> Terms<'_, Pounds> {
 }
 
 /// Enters the works of the sample junction; nothing is wanted yet.
-pub fn enter_works<T: Tariff, C: Chooser>(planner: &mut Planner<T, C>) -> Result<(), Fail> {
-    for (needs, gives) in WORKS {
-        planner.enter(Set::from_bits(needs), Set::from_bits(gives))?;
+pub fn enter_works<T: Tariff, C: Chooser>(
+    heap: Global,
+    planner: &mut Planner<T, C>,
+) -> Result<(), Fail> {
+    for work in inspection::junction(heap)?.works() {
+        planner.enter(work.needs, work.gives)?;
     }
     Ok(())
 }
@@ -49,7 +49,7 @@ pub fn enter_works<T: Tariff, C: Chooser>(planner: &mut Planner<T, C>) -> Result
 /// The sample junction under pounds, above a searcher.
 pub fn junction(rt: &impl Abort, heap: Global) -> Result<Planner<Pounds, Searcher>, Fail> {
     let mut planner = opened(heap)?;
-    enter_works(&mut planner)?;
+    enter_works(heap, &mut planner)?;
     want(rt, &mut planner, 4)?;
     Ok(planner)
 }

@@ -11,14 +11,15 @@ use Rattle.scheme.specs.Reach.{Sufficient}
 use Rattle.scheme.specs.Orders.{Plan, Placed}
 use Rattle.scheme.specs.Landmarks.{Landmark}
 use Rattle.scheme.proofs.Reaches.{sufficient_grows}
-use Rattle.scheme.proofs.Ordered.{Once, placed_from, placed_once, placed_plan, sufficient_by_plan}
+use Rattle.sets.proofs.Lists.{Distinct}
+use Rattle.scheme.proofs.Ordered.{placed_from, placed_once, placed_plan, sufficient_by_plan}
 use Rattle.scheme.proofs.Drawing.{landmark_meets}
 use Rattle.tariff.specs.Amounts.{Scale, All, AtMost}
 use Rattle.tariff.proofs.Order.{at_most_chained, less_or_equal}
 use Rattle.tariff.proofs.Sums.{all_back, all_take}
 use Rattle.chooser.specs.Least.{Allowed, Capped, Hitting, Least, Precedes, set_cost, order_cost}
 use Rattle.chooser.proofs.Precedence.{precedes_sub, precedes_proper, precedes_transitive, precedes_antisymmetric, cost_of_precedes}
-use Rattle.chooser.proofs.OrderCosts.{Distinct, works_of, cost_distinct, cost_order}
+use Rattle.chooser.proofs.OrderCosts.{works_of, cost_distinct, cost_order}
 use Rattle.rules.specs.Rules.{Unbarred}
 use Rattle.rules.specs.Calls.{Fair}
 use Rattle.rules.specs.Promises.{Cheapest}
@@ -28,7 +29,7 @@ pub all_map : {X : Type 0} (P Q : X → Type 0) → ((x : X) → P x → Q x) �
 all_map P Q f [] h = tt
 all_map P Q f (x ∷ xs) h = (f x h.0, all_map P Q f xs h.1)
 
-once_distinct : (xs : List ℕ) → Once xs → Distinct xs
+once_distinct : (xs : List ℕ) → Distinct xs → Distinct xs
 once_distinct [] h = tt
 once_distinct (x ∷ xs) h = (h.0, once_distinct xs h.1)
 

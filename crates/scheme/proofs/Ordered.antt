@@ -5,6 +5,7 @@ use Rattle.sets.specs.declared.Set.{Set}
 use Rattle.sets.specs.Member.{Has, Members, Sub}
 use Rattle.sets.specs.Listed.{In}
 use Rattle.sets.proofs.Decided.{both_decided}
+use Rattle.sets.proofs.Lists.{Distinct}
 use Rattle.sets.proofs.Laws.{same_members, has_or_not, proper_lt, lowest_below}
 use Rattle.sets.proofs.Parts.{union_of, sub_decided, less_one}
 use Rattle.scheme.specs.declared.Work.{Work}
@@ -79,11 +80,6 @@ plan_sufficient {order} plan = sufficient_by_plan (λ w. In w order) plan (λ w 
 
 -- ---- the order of a set of works
 
--- no number stands twice in a list
-abbrev pub Once : List ℕ → Type 0
-Once [] = Unit {0}
-Once (x ∷ xs) = (In x xs → ⊥) × Once xs
-
 -- only works of the set are placed
 pub placed_from :
     {works : List Work} {left s : Set} {order : List ℕ} →
@@ -96,7 +92,7 @@ placed_from (placing {left} held has needs first less adds p) w (inl e) = subst 
 placed_from (placing held has needs first less adds p) w (inr y) = ((less w).0 (placed_from p w y)).0
 
 -- each work is placed once
-pub placed_once : {works : List Work} {left s : Set} {order : List ℕ} → Placed works left s order → Once order
+pub placed_once : {works : List Work} {left s : Set} {order : List ℕ} → Placed works left s order → Distinct order
 placed_once (none_left rest) = tt
 placed_once (placing {w} held has needs first less adds p) = (λ y. ((less w).0 (placed_from p w y)).1 refl, placed_once p)
 

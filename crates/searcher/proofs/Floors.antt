@@ -3,8 +3,8 @@ use Rattle.std.proofs.Common.{◌≡◌, ℕ, ◌+◌, ◌^◌, ◌<◌, ◌≤�
 use native.Mathlib.Decide.{dec_lt}
 use Rattle.sets.specs.declared.Set.{Set}
 use Rattle.sets.specs.Member.{Has, Members, Meet, Lowest}
-use lib.Bits.{bit_or}
-use Rattle.sets.proofs.Laws.{only_members, sub_le, union_members}
+use Rattle.sets.proofs.Laws.{only_members, sub_le}
+use Rattle.sets.proofs.Parts.{union_of}
 use Rattle.tariff.specs.Amounts.{All}
 use Rattle.chooser.proofs.Parts.{put_back}
 use Rattle.chooser.proofs.UnionNumbers.{number_union, number_union_at_most}
@@ -16,11 +16,8 @@ use Rattle.searcher.specs.Nodes.{Inside}
 number_with : (s u : Set) (w : ℕ) → Members u (λ k. Has s k ⊎ ((k ≡ w) × (w < 64))) → u.bits ≤ 2 ^ w + s.bits
 number_with s u w m =
     let only : Set = record { bits = 2 ^ w } in
-    let all = bigger only s in
+    let all = union_of only s in
     omega (arith, sub_le u all.0 (λ k h. (all.1 k).1 (⊎_elim inr (λ e. inl ((only_members w k).1 e.0)) ((m k).0 h))), number_union_at_most only s all.0 all.1)
-  where
-    bigger : (a b : Set) → (c : Set) × Members c (λ k. Has a k ⊎ Has b k)
-    bigger a b = (record { bits = bit_or a.bits b.bits }, union_members a b)
 
 -- and a set with a work fewer has its number less the work's weight
 number_without : (s x : Set) (w : ℕ) → Has s w → Members x (λ k. Has s k × (k ≡ w → ⊥)) → s.bits ≡ 2 ^ w + x.bits

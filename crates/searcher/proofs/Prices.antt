@@ -9,15 +9,12 @@ use Rattle.sets.specs.Steps.{Next}
 use Rattle.sets.specs.declared.Set.{Set}
 use Rattle.sets.specs.Member.{Has, Members, Sub}
 use Rattle.sets.proofs.Decided.{same_decided}
+use Rattle.sets.proofs.Listing.{nexts}
 use Rattle.tariff.specs.Amounts.{Scale, AtMost}
 use Rattle.tariff.proofs.Order.{at_most_reflexive, at_most_of_less, at_most_chained}
 use Rattle.chooser.specs.Least.{Capped, SetCapped, set_cost}
 use Rattle.chooser.proofs.SetCosts.{cost_only}
 use Rattle.searcher.specs.Costs.{Cheaper, Cheapest, work_cost}
-
--- the steps of a run over the members of a set
-abbrev pub nexts : SetIter → Option ℕ → SetIter → Type 0
-nexts s r u = Next s.rest r u.rest
 
 module _ {V : Type 0} (t : Scale V) (prices : List V) where
   module _ (one : Set) (w : ℕ) (m : Members one (λ k. (k ≡ w) × (w < 64))) where

@@ -1,5 +1,5 @@
 -- The members of a set as a list.
-use Rattle.std.proofs.Common.{◌≡◌, ℕ, zero, suc, ◌+◌, ◌^◌, ◌<◌, ◌≤◌, Bool, true, false, cond, List, [], ◌∷◌, length, Some, filter, sym, refl, ap, ◌∙◌, inl, inr, ⊎_elim, arith, eq-eqb}
+use Rattle.std.proofs.Common.{◌≡◌, ℕ, zero, suc, ◌+◌, ◌^◌, ◌<◌, ◌≤◌, Bool, true, false, cond, List, [], ◌∷◌, length, Some, filter, sym, refl, ap, ◌∙◌, inl, inr, ⊎_elim, arith, eq-eqb, Option}
 use native.Mathlib.Decide.{dec_lt}
 use lib.Count.{ones}
 use Rattle.std.proofs.lemmas.Bool.{eqb-true}
@@ -7,6 +7,7 @@ use Rattle.std.specs.List.{range_with_len}
 use Rattle.sets.specs.declared.Set.{Set}
 use Rattle.sets.specs.Listed.{In, Rising, Listed, has_bit, members}
 use Rattle.sets.specs.Member.{Has}
+use Rattle.sets.specs.declared.iter.SetIter.{SetIter}
 use Rattle.sets.specs.Steps.{Next}
 use Rattle.sets.proofs.Laws.{has_below, proper_lt, lowest_or_none, count_within, count_without}
 use Rattle.sets.proofs.Parts.{less_one}
@@ -109,6 +110,10 @@ members_listed s h = record {
 pub members_none : (s : Set) → ((k : ℕ) → Has s k → ⊥) → members s ≡ []
 members_none s none =
     rising_same (members s) [] (members_rising s) tt (λ k y. absurd (none k (members_sound s k y).0)) (λ k y. absurd y)
+
+-- the steps of a run over the members of a set
+abbrev pub nexts : SetIter → Option ℕ → SetIter → Type 0
+nexts i r j = Next i.rest r j.rest
 
 -- the lowest member comes first, and then the others
 pub members_next : (s t : Set) (k : ℕ) → Next s (Some k) t → members s ≡ k ∷ members t

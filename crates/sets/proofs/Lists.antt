@@ -19,6 +19,11 @@ pub in_back : (k : ℕ) (xs ys : List ℕ) → In k ys → In k (xs ++ ys)
 in_back k [] ys h = h
 in_back k (x ∷ xs) ys h = inr (in_back k xs ys h)
 
+-- no element stands twice
+abbrev pub Distinct : List ℕ → Type 0
+Distinct [] = Unit {0}
+Distinct (x ∷ xs) = (In x xs → ⊥) × Distinct xs
+
 -- a set of the elements of a list that are below m, with one element more
 pub set_more :
     (ys : List ℕ) (x m : ℕ) (s t : Set) →

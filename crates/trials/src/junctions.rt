@@ -63,17 +63,29 @@ fn sample_landmarks(rt: HostRuntime) -> Result<(), Fail> {
     Ok(())
 }
 
-/// Two works that each need what the other gives, item 0 wanted.
-fn circle(heap: Global) -> Result<Scheme, AllocError> {
+/// Works that each give the item of their number, with needs by that number, and one wanted item.
+fn works_with<F: Fn(usize) -> Set>(
+    heap: Global,
+    count: usize,
+    needs: F,
+    wanted: u8,
+) -> Result<Scheme, AllocError>
+    requires { F.IsAlwaysCallable needs }
+{
     let mut scheme = Scheme::new(heap)?;
-    for w in 0..2usize {
+    for w in 0..count {
         let _ = scheme.enter(Work {
-            needs: Set::only(1 - w),
+            needs: needs(w),
             gives: Set::only(w),
         });
     }
-    let _ = scheme.want(0);
+    let _ = scheme.want(wanted);
     Ok(scheme)
+}
+
+/// Two works that each need what the other gives, item 0 wanted.
+fn circle(heap: Global) -> Result<Scheme, AllocError> {
+    works_with(heap, 2, |w| Set::below(2).without(w), 0)
 }
 
 #[test]
@@ -91,15 +103,8 @@ fn works_in_a_circle(rt: HostRuntime) -> Result<(), Fail> {
 
 /// 64 works, each of which needs what the one before gives; item 63 is wanted.
 fn chain(heap: Global) -> Result<Scheme, AllocError> {
-    let mut scheme = Scheme::new(heap)?;
-    for w in 0..64usize {
-        let _ = scheme.enter(Work {
-            needs: Set::below(w).minus(Set::below(w.saturating_sub(1))),
-            gives: Set::only(w),
-        });
-    }
-    let _ = scheme.want(63);
-    Ok(scheme)
+    let before = |w: usize| Set::below(w).minus(Set::below(w.saturating_sub(1)));
+    works_with(heap, 64, before, 63)
 }
 
 #[test]
