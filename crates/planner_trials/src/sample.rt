@@ -105,10 +105,10 @@ pub fn expect_front(rt: &impl Abort, places: &[u8], order: &[u8]) {
 /// Checks that a call was refused, by the refusal's number.
 pub fn refused<V: Drop>(
     rt: &impl Abort,
-    result: Result<V, Refusal>,
+    answer: Result<V, Refusal>,
     number: u8,
 ) -> Result<(), Fail> {
-    match result {
+    match answer {
         Ok(_) => Err(Fail::new("not refused")),
         // By number: the numbers are what is tried here.
         Err(refusal) => {
@@ -134,7 +134,7 @@ pub fn unanswered<C: Chooser>(
 }
 
 /// Checks the kept landmarks, by the numbers of the sets.
-pub fn expect_kept<T, C: Chooser>(
+pub fn expect_kept<T: Tariff, C: Chooser>(
     rt: &impl Abort,
     planner: &Planner<T, C>,
     kept: &[u64],
