@@ -1,6 +1,6 @@
 -- Records among bytes: the parts of a record where they stand.
-use Rattle.std.proofs.Common.{◌≡◌, ℕ, ◌+◌, ◌-◌, ◌<◌, ◌≤◌, List, ◌++◌, length, get_or, take, drop, Some, sym, refl, ap, ◌∙◌, ap₂, arith, rules}
-use Rattle.std.proofs.lemmas.List.{same_lists, places, take-append-drop, drop-drop, length-drop, length-take-le, get_or-drop, append_assoc}
+use Rattle.std.proofs.Common.{◌≡◌, ℕ, ◌+◌, ◌-◌, ◌<◌, ◌≤◌, List, [], ◌∷◌, ◌++◌, length, get_or, take, drop, Some, sym, refl, ap, ◌∙◌, ap₂, arith, rules}
+use Rattle.std.proofs.lemmas.List.{same_lists, places, take_all, take-append-drop, drop-drop, length-drop, length-take-le, get_or-drop, append_assoc}
 use Rattle.std.proofs.lemmas.Bool.Decides.{nat_tests}
 use Rattle.scheme_file.specs.declared.kinds.Kind.{Kind}
 use Rattle.scheme_file.specs.declared.kinds.Kind.TheVariants.{Head, Item, Work, Standing, Wanted, End}
@@ -27,6 +27,30 @@ cut_frame rest first after whole second body s one sized two three =
       ap value (sym (three.0 ∙ ap (take 2) part ∙ same_lists _ _ (search (rules, places)) (λ k d lt. grind (arith, places)))),
       three.1 ∙ ap (drop 2) part ∙ same_lists _ _ (search (rules, places)) (λ k d lt. grind (arith, places)),
     )
+
+first_two : (xs : List ℕ) → 2 ≤ length xs → get_or xs 0 0 ∷ (get_or xs 1 0 ∷ []) ≡ take 2 xs
+first_two [] h = absurd (omega arith)
+first_two (x ∷ []) h = absurd (omega arith)
+first_two (x ∷ (y ∷ xs)) h = refl
+
+-- the same, as slice patterns take them
+pub frame_cut :
+    (rest whole : List ℕ) (s : ℕ) →
+    2 ≤ length rest →
+    s ≡ value (get_or rest 0 0 ∷ (get_or rest 1 0 ∷ [])) →
+    whole ≡ take s (take (length rest - 2) (drop 2 rest)) →
+    s ≤ length (take (length rest - 2) (drop 2 rest)) →
+    2 ≤ length whole →
+    Complete rest × (2 ≤ size rest) × (code rest ≡ value (get_or whole 0 0 ∷ (get_or whole 1 0 ∷ []))) × (take (length whole - 2) (drop 2 whole) ≡ body_in rest)
+frame_cut rest whole s two sized is room some =
+    let rest_less : length (drop 2 rest) ≡ length rest - 2 = length-drop 2 rest in
+    let less : length (drop 2 whole) ≡ length whole - 2 = length-drop 2 whole in
+    let after : take (length rest - 2) (drop 2 rest) ≡ drop 2 rest = take_all (length rest - 2) (drop 2 rest) (omega (arith, rest_less)) in
+    let body : take (length whole - 2) (drop 2 whole) ≡ drop 2 whole = take_all (length whole - 2) (drop 2 whole) (omega (arith, less)) in
+    cut_frame rest (get_or rest 0 0 ∷ (get_or rest 1 0 ∷ [])) (drop 2 rest) whole (get_or whole 0 0 ∷ (get_or whole 1 0 ∷ []))
+    (take (length whole - 2) (drop 2 whole)) s
+    (first_two rest two, refl, omega (arith, rest_less)) sized (is ∙ ap (take s) after, omega (arith, ap length after, room))
+    (first_two whole some, body, omega (arith, ap length body, less))
 
 -- a kind stands behind its code alone
 pub code_named : (n : ℕ) (k : Kind) → named n ≡ Some k → code_of k ≡ n

@@ -20,11 +20,15 @@ use scheme::{Refusal, Scheme};
 fn frame(rest: &[u8]) -> Result<(Kind, &[u8]), Cause>
     ensures { ByRules (frame_rules rest.now) result (λ x. (named (code rest.now) ≡ Some x.0) × (x.1.now ≡ body_in rest.now)) }
 {
-    let (size, after) = rest.split_first_chunk().ok_or(Cause::CutShort)?;
-    let size = u16::from_bytes(size) as usize;
+    let [l0, l1, after @ ..] = rest else {
+        return Err(Cause::CutShort);
+    };
+    let size = u16::from_bytes(&[*l0, *l1]) as usize;
     let record = after.get(..size).ok_or(Cause::CutShort)?;
-    let (code, body) = record.split_first_chunk().ok_or(Cause::UnknownKind)?;
-    let kind = Kind::try_from(u16::from_bytes(code))?;
+    let [k0, k1, body @ ..] = record else {
+        return Err(Cause::UnknownKind);
+    };
+    let kind = Kind::try_from(u16::from_bytes(&[*k0, *k1]))?;
     Ok((kind, body))
 }
 
