@@ -1,10 +1,9 @@
 -- What a step at one node leaves.
-use Rattle.std.proofs.Common.{◌≡◌, ℕ, zero, suc, ◌<◌, Bool, true, false, not, filter, MatchBool, ◌⊎◌, List, [], ◌∷◌, length, get_or, Some, None, Option, option_map, IsSomeAnd, MatchOption, Bor, sym, refl, ap, ◌∙◌, subst, inl, inr, ⊎_elim, arith}
+use Rattle.std.proofs.Common.{◌≡◌, ℕ, zero, suc, ◌+◌, ◌<◌, Bool, true, false, not, filter, MatchBool, ◌⊎◌, List, [], ◌∷◌, length, get_or, Some, None, Option, option_map, IsSomeAnd, MatchOption, Bor, sym, refl, ap, ◌∙◌, subst, inl, inr, ⊎_elim, arith, count_ones}
 use Rattle.std.proofs.lemmas.List.{nil_from_length}
 use Rattle.std.specs.Iterator.{ActsAsAt}
 use Rattle.std.specs.Iterator.Runs.{Run, WholeRun, SomeRun, EachRunFrom, AnyItem, IsFilterRun}
 use denote.Param.Members.{Mut}
-use lib.Count.{ones}
 use Rattle.sets.specs.declared.Set.{Set}
 use Rattle.sets.specs.Member.{Has, Members, Meet, Sub}
 use Rattle.sets.proofs.Laws.{has_or_not, meet_or_not, count_without}
@@ -13,7 +12,7 @@ use Rattle.tariff.specs.Amounts.{Scale, All}
 use Rattle.chooser.specs.Least.{Precedes}
 use Rattle.chooser.proofs.Precedence.{precedes_sub, precedes_transitive, precedes_of_not}
 use Rattle.searcher.specs.declared.node.Node.{Node}
-use Rattle.searcher.specs.Nodes.{Inside, Of, One, Unmet, Best, Ahead, Better, Settled, Closed}
+use Rattle.searcher.specs.Nodes.{Inside, Of, One, Unmet, Best, Ahead, Better, Settled, Halved, Closed}
 
 -- ---- one of the kept sets
 
@@ -94,24 +93,24 @@ narrowest g f chosen sets s it r Rest (p, from, whole, picks) filtered all test 
 
 module _ (n a : Node) (w : ℕ) (y : Has n.free w) (fewer : Members a.free (λ k. Has n.free k × (k ≡ w → ⊥))) where
   -- a part has a free work less
-  pub part_smaller : ones a.free.bits < ones n.free.bits
-  part_smaller = omega (arith, count_without n.free a.free w y fewer)
+  part_fewer : count_ones a.free.bits + 1 ≡ count_ones n.free.bits
+  part_fewer = omega (arith, count_without n.free a.free w y fewer)
 
   part_free : (works : Set) → Of works n → Sub a.free works
   part_free works of k h = of.free k ((fewer k).0 h).0
 
   -- its works are among those that the node's are
-  pub part_with : Members a.chosen (λ k. Has n.chosen k ⊎ ((k ≡ w) × (w < 64))) → (works : Set) → Of works n → Of works a
+  part_with : Members a.chosen (λ k. Has n.chosen k ⊎ ((k ≡ w) × (w < 64))) → (works : Set) → Of works n → Of works a
   part_with more works of = record {
     chosen = λ k h. ⊎_elim (of.chosen k) (λ e. subst (Has works) (sym e.0) (of.free w y)) ((more k).0 h);
     free = part_free works of;
   }
 
-  pub part_without : a.chosen ≡ n.chosen → (works : Set) → Of works n → Of works a
+  part_without : a.chosen ≡ n.chosen → (works : Set) → Of works n → Of works a
   part_without same works of = record { chosen = λ k h. of.chosen k (subst (λ (s : Set). Has s k) same h); free = part_free works of }
 
 -- each set of a node is in one of its parts
-pub covered :
+covered :
     (n a b : Node) (w : ℕ) → w < 64 → Members a.chosen (λ k. Has n.chosen k ⊎ ((k ≡ w) × (w < 64))) →
     Members a.free (λ k. Has n.free k × (k ≡ w → ⊥)) → b.chosen ≡ n.chosen → Members b.free (λ k. Has n.free k × (k ≡ w → ⊥)) →
     (o : Set) → Inside n o → Inside a o ⊎ Inside b o
@@ -130,6 +129,15 @@ covered n a b w lt more fewer same others o inside =
           (inside.rest k h);
     }))
     (has_or_not o w)
+
+pub halved :
+    (n a b : Node) (w : ℕ) → Has n.free w → w < 64 → Members a.chosen (λ k. Has n.chosen k ⊎ ((k ≡ w) × (w < 64))) →
+    Members a.free (λ k. Has n.free k × (k ≡ w → ⊥)) → b.chosen ≡ n.chosen → Members b.free (λ k. Has n.free k × (k ≡ w → ⊥)) → Halved n a b
+halved n a b w y lt more fewer same others = record {
+  covered = covered n a b w lt more fewer same others;
+  fewer = (part_fewer n a w y fewer, part_fewer n b w y others);
+  parts = λ works of. (part_with n a w y fewer more works of, part_without n b w y others same works of);
+}
 
 module _ {V : Type 0} (t : Scale V) (prices : List V) (sets : List Set) (n : Node) where
   -- ---- a node that cannot better the best set
@@ -168,13 +176,3 @@ module _ {V : Type 0} (t : Scale V) (prices : List V) (sets : List Set) (n : Nod
       let met = one_met o sets one kept m in
       let k = met.0 in
       absurd (⊎_elim (λ y. unmet (k, y, met.2)) (λ y. empty k ((shared k).1 (met.2, y))) (inside.rest k met.1))
-
-  -- both its halves are done, one after the other
-  pub closed_halves :
-      (works : Set) (a b : Node) (best found after : Option Set) → ((o : Set) → Inside n o → Inside a o ⊎ Inside b o) → Closed t prices works sets a best found →
-      Closed t prices works sets b found after → Closed t prices works sets n best after
-  closed_halves works a b best found after covers first second = record {
-    settled = λ o inside m. ⊎_elim (λ h. second.keeps o (first.settled o h m)) (λ h. second.settled o h m) (covers o inside);
-    keeps = λ o h. second.keeps o (first.keeps o h);
-    found = second.found;
-  }

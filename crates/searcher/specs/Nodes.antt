@@ -1,5 +1,7 @@
 -- Nodes of the search, and what is known of the best set so far.
-use Rattle.std.specs.Prelude.{◌≡◌, ℕ, ◌⊎◌, List, [], ◌∷◌, Some, None, Option}
+use Rattle.std.specs.Prelude.{◌≡◌, ℕ, ◌+◌, ◌⊎◌, List, [], ◌∷◌, Some, None, Option, count_ones}
+use Rattle.std.specs.declared.ops.ControlFlow.{ControlFlow}
+use Rattle.std.specs.declared.ops.ControlFlow.TheVariants.{Continue, Break}
 use Rattle.sets.specs.declared.Set.{Set}
 use Rattle.sets.specs.Member.{Has, Meet, Sub}
 use Rattle.tariff.specs.Amounts.{Scale, All}
@@ -15,6 +17,12 @@ pub record Inside (n : Node) (o : Set) : Type 0 where
 pub record Of (works : Set) (n : Node) : Type 0 where
   pub chosen : Sub n.chosen works
   pub free : Sub n.free works
+
+-- a node in two, by a free work
+pub record Halved (n a b : Node) : Type 0 where
+  pub covered : (o : Set) → Inside n o → Inside a o ⊎ Inside b o
+  pub fewer : (count_ones a.free.bits + 1 ≡ count_ones n.free.bits) × (count_ones b.free.bits + 1 ≡ count_ones n.free.bits)
+  pub parts : (works : Set) → Of works n → Of works a × Of works b
 
 -- one of some kept sets
 abbrev pub One : List Set → Set → Type 0
@@ -51,6 +59,11 @@ module _ {V : Type 0} (t : Scale V) (prices : List V) where
     pub settled : Settled sets after n
     pub keeps : (o : Set) → Ahead best o → Ahead after o
     pub found : Best works sets after
+
+  -- a node that is split, or done with what is then the best set
+  abbrev pub Stepped : Set → List Set → Node → Option Set → ControlFlow (Option Set) (Node × Node) → Type 0
+  Stepped works sets n best (Continue parts) = Halved n parts.0 parts.1
+  Stepped works sets n best (Break after) = Closed works sets n best after
 
   -- the first of the sets of some works that meet the kept ones
   pub record Searched (works : Set) (sets : List Set) (r : Option Set) : Type 0 where

@@ -1,5 +1,5 @@
 //! What a draw goes by.
-ghost use Rattle.std.specs.Prelude.{◌≡◌};
+ghost use Rattle.std.specs.Prelude.{◌≡◌, ◌^◌, ◌<◌};
 ghost use Rattle.sets.specs.Member.{Members};
 ghost use Rattle.chooser.specs.Least.{Allowed, SetCapped};
 ghost use Rattle.chooser.specs.Steps.{Held};
@@ -14,6 +14,7 @@ pub(crate) struct Draw<'a, T: Tariff> {
     pub(crate) terms: Terms<'a, T>,
     pub(crate) sets: &'a [Set],
     pub(crate) works: Set,
+    ghost low: { works.bits < 2 ^ 64 },
     ghost capped: { ∥ SetCapped T.Tariff.scale terms.prices.now works ∥₁ },
 }
 

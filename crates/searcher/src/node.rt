@@ -6,7 +6,7 @@ ghost use Rattle.searcher.specs.Costs.{Own};
 use sets::Set;
 
 /// The sets that have every chosen work, and besides these only free ones.
-#[derive(Clone, Copy)]
+#[derive(Clone, Copy, Default)]
 pub(crate) struct Node {
     pub(crate) chosen: Set,
     pub(crate) free: Set,

@@ -1,9 +1,11 @@
 //! The walk over the nodes.
-ghost use Rattle.searcher.specs.Nodes.{Best, Closed, Of, Searched};
+ghost use Rattle.searcher.specs.Nodes.{Best, Of, Searched, Stepped};
 
 use crate::draw::Draw;
 use crate::node::Node;
+use arrayvec::ArrayVec;
 use sets::Set;
+use std::ops::ControlFlow;
 use tariff::Tariff;
 
 /// What a walk found, and how many nodes it went through.
@@ -14,37 +16,52 @@ pub(crate) struct Walked {
 }
 
 impl<T: Tariff> Draw<'_, T> {
-    /// The first of the sets of the works that meet every kept set, if there is one.
+    /// The first of the sets of the works that meet every kept set, if there is one. A part that is put by has fewer free works than those
+    /// put by before it, so that 64 places are enough.
     pub(crate) fn least(&self) -> Walked
         ensures { Searched T.Tariff.scale self.now.terms.prices.now self.now.works self.now.sets.now result.best }
     {
-        let all = Node {
+        let mut stack = ArrayVec::<Node, 64>::new();
+        let mut best = None;
+        let mut nodes = 0u64;
+        let mut node = Node {
             chosen: Set::empty(),
             free: self.works,
         };
-        let mut nodes = 0;
-        let best = self.walk(all, None, &mut nodes);
-        Walked { best, nodes }
+        'walk: loop {
+            nodes = nodes.wrapping_add(1);
+            match self.advance(node, best) {
+                ControlFlow::Continue((with, without)) => {
+                    stack.push(without);
+                    node = with;
+                }
+                ControlFlow::Break(found) => {
+                    best = found;
+                    match stack.pop() {
+                        None => return Walked { best, nodes },
+                        Some(next) => node = next,
+                    }
+                }
+            }
+        }
     }
 
-    /// The best set so far once a node is done, where each node that it goes through is counted. A node that may better the best set is
-    /// split by a free work of a kept set that is not met; its parts have one free work fewer, so that no node is more than 64 splits deep.
-    fn walk(&self, node: Node, best: Option<Set>, nodes: &mut u64) -> Option<Set>
+    /// Goes on from a node and the best set so far: with the two parts of a node that is split by a free work of a kept set that is not met,
+    /// or with the best set that a node leaves that is done.
+    fn advance(&self, node: Node, best: Option<Set>) -> ControlFlow<Option<Set>, (Node, Node)>
         requires node { Of self.now.works node }
         requires best { Best self.now.works self.now.sets.now best }
-        ensures { Closed T.Tariff.scale self.now.terms.prices.now self.now.works self.now.sets.now node best result }
+        ensures { Stepped T.Tariff.scale self.now.terms.prices.now self.now.works self.now.sets.now node best result }
     {
-        *nodes = nodes.wrapping_add(1);
         if self.is_beaten(node, best) {
-            return best;
+            return ControlFlow::Break(best);
         }
         let Some(one) = self.branching_set(node) else {
-            return Some(node.chosen);
+            return ControlFlow::Break(Some(node.chosen));
         };
         let Some(w) = self.cheapest(one.intersection(node.free)) else {
-            return best;
+            return ControlFlow::Break(best);
         };
-        let found = self.walk(node.with(w), best, nodes);
-        self.walk(node.without(w), found, nodes)
+        ControlFlow::Continue((node.with(w), node.without(w)))
     }
 }
