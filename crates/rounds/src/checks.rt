@@ -34,18 +34,25 @@ impl<T: Tariff> Question<'_, T> {
         self.check_numbers(paper)
     }
 
-    /// Whether there is one price for each work, each within the ceiling.
+    /// Whether there is one price for each work, each within the ceiling. A wrong count is told first.
     fn check_prices(&self) -> Result<(), Refusal>
         ensures { Priced T.Tariff.scale (task_of self.now.scheme.now) self.now.terms.prices.now result }
     {
-        let prices = self.terms.prices;
-        if prices.len() != self.scheme.works().len() {
+        let count = self.scheme.works().len();
+        let mut ceiling = Ok(());
+        // A rule of the project: one pass over the prices with their index looks at both.
+        for (place, price) in self.terms.prices.iter().enumerate() {
+            if place >= count {
+                return Err(Refusal::PriceCount);
+            }
+            if !T::is_price(*price) {
+                ceiling = Err(Refusal::PriceTooHigh);
+            }
+        }
+        if self.terms.prices.len() < count {
             return Err(Refusal::PriceCount);
         }
-        if !prices.iter().all(|price| T::is_price(*price)) {
-            return Err(Refusal::PriceTooHigh);
-        }
-        Ok(())
+        ceiling
     }
 
     /// Whether every barred work is held.
