@@ -1,11 +1,10 @@
 -- The works that the iterator of a set yields.
-use Rattle.std.proofs.Common.{◌≡◌, ℕ, ◌^◌, ◌<◌, ◌≤◌, List, [], ◌∷◌, length, None, sym, refl, ap, ◌∙◌, subst, inl, inr, arith}
+use Rattle.std.proofs.Common.{◌≡◌, ℕ, ◌^◌, ◌<◌, ◌≤◌, List, [], ◌∷◌, length, None, sym, refl, ap, ◌∙◌, inl, inr, arith}
 use lib.Count.{ones-le}
 use Rattle.std.specs.Iterator.{Yields, Drains}
 use Rattle.sets.specs.declared.Set.{Set}
 use Rattle.sets.specs.declared.iter.SetIter.{SetIter}
 use Rattle.sets.specs.Listed.{In, members}
-use Rattle.sets.specs.Member.{Has}
 use Rattle.sets.proofs.Listing.{nexts, members_sound, members_listed, members_none, members_next, count_members}
 use Rattle.tariff.specs.Amounts.{Scale, All}
 use Rattle.chooser.specs.Least.{Capped, SetCapped, OrderCapped, set_cost, order_cost}
@@ -13,7 +12,7 @@ use Rattle.chooser.proofs.OrderCosts.{cost_listed}
 
 -- the members, in rising order
 members_drained : (xs : List ℕ) (s t u : SetIter) → Yields nexts s xs t → nexts t None u → xs ≡ members s.rest
-members_drained [] s t u same none = sym (members_none s.rest (subst (λ (i : SetIter). (k : ℕ) → Has i.rest k → ⊥) (sym same) none.0))
+members_drained [] s t u same none = sym (members_none s.rest (rw same none.0))
 members_drained (x ∷ xs) s t u (j, step, came) none =
     ap (λ ys. x ∷ ys) (members_drained xs j t u came none) ∙ sym (members_next s.rest j.rest x step)
 

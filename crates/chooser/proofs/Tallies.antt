@@ -3,7 +3,7 @@ use Rattle.std.proofs.Common.{◌≡◌, ℕ, ◌+◌, ◌<◌, ◌≤◌, List,
 use Rattle.tariff.specs.Amounts.{Scale, Total, sum}
 use Rattle.tariff.proofs.Joins.{join_none}
 use Rattle.tariff.proofs.Sums.{all_append, all_front, all_back, sum_append, sum_one}
-use Rattle.tariff.proofs.Totals.{total_none, total_price}
+use Rattle.tariff.proofs.Totals.{total_price}
 use Rattle.chooser.specs.Least.{Capped, OrderCapped, price, order_cost}
 use Rattle.chooser.specs.Steps.{Charged}
 use Rattle.chooser.proofs.OrderCosts.{order_cost_push}
@@ -54,9 +54,6 @@ module _ {V : Type 0} (t : Scale V) (prices : List V) where
     pub few : count ≤ length works
     pub counted : Total t count total
     pub whole : t.amount total ≡ order_cost t prices works
-
-  pub tally_none : (total : V) → t.amount total ≡ t.none → Tally [] total
-  tally_none total e = record { count = 0; few = omega arith; counted = total_none t total e; whole = e }
 
   pub tally_more :
       (works : List ℕ) (w : ℕ) (total r : V) → (length works ≤ 64 → OrderCapped t prices works → Tally works total) → Charged t prices total w r →
