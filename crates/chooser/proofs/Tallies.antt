@@ -1,10 +1,10 @@
 -- A running total of the prices of works.
-use Rattle.std.proofs.Common.{◌≡◌, ℕ, ◌+◌, ◌<◌, ◌≤◌, List, [], ◌∷◌, ◌++◌, length, get_or, drop, sym, ap, ◌∙◌, subst, inl, inr, arith, length-append, length-take}
-use Rattle.tariff.specs.Amounts.{Scale, Total, sum}
+use Rattle.std.proofs.Common.{◌≡◌, ℕ, ◌<◌, ◌≤◌, List, [], ◌∷◌, ◌++◌, length, get_or, drop, refl, sym, ap, ◌∙◌, subst, inl, inr, arith, length-append, length-take}
+use Rattle.tariff.specs.Amounts.{Scale, All, Total, sum}
 use Rattle.tariff.proofs.Joins.{join_none}
-use Rattle.tariff.proofs.Sums.{all_append, all_front, all_back, sum_append, sum_one}
+use Rattle.tariff.proofs.Sums.{all_append, all_front, all_back, sum_one}
 use Rattle.tariff.proofs.Totals.{total_price}
-use Rattle.chooser.specs.Least.{Capped, OrderCapped, price, order_cost}
+use Rattle.chooser.specs.Least.{Capped, OrderCapped, price, priced, order_cost}
 use Rattle.chooser.specs.Steps.{Charged}
 use Rattle.chooser.proofs.OrderCosts.{order_cost_push}
 use Rattle.chooser.proofs.SetCosts.{price_held, price_past}
@@ -34,38 +34,27 @@ module _ {V : Type 0} (t : Scale V) (prices : List V) where
       ap t.amount same
       ∙ sym (ap (λ vs. t.join (t.amount total) (sum t vs)) (price_past prices w past) ∙ join_none t (t.amount total))
 
-  module _ (n : ℕ) (total r : V) (w : ℕ) (counted : Total t n total) (capped : Capped t prices w)
-      (sums : t.amount r ≡ t.join (t.amount total) (sum t (price prices w))) where
-    total_charged : Total t (n + length (price prices w)) r
-    total_charged = (
-      counted.0 ++ price prices w,
-      length-append counted.0 (price prices w) ∙ ap (λ k. k + length (price prices w)) counted.1,
-      all_append t.within counted.0 (price prices w) counted.2 capped,
-      sums ∙ ap (λ x. t.join x (sum t (price prices w))) counted.3 ∙ sym (sum_append t counted.0 (price prices w)),
-    )
+  -- ---- works charged one after another
 
-  one_price : (w : ℕ) → length (price prices w) ≤ 1
-  one_price w = omega (arith, length-take 1 (drop w prices))
+  priced_within : (works : List ℕ) → OrderCapped t prices works → All t.within (priced prices works)
+  priced_within [] capped = tt
+  priced_within (w ∷ works) capped = all_append t.within (price prices w) (priced prices works) capped.0 (priced_within works capped.1)
 
-  -- ---- works one after another: what is charged so far
+  priced_few : (works : List ℕ) → length (priced prices works) ≤ length works
+  priced_few [] = omega arith
+  priced_few (w ∷ works) =
+      omega (arith, length-append (price prices w) (priced prices works), length-take 1 (drop w prices), priced_few works)
 
-  pub record Tally (works : List ℕ) (total : V) : Type 0 where
-    pub count : ℕ
-    pub few : count ≤ length works
-    pub counted : Total t count total
-    pub whole : t.amount total ≡ order_cost t prices works
+  -- a total so far of as many works as may be charged
+  abbrev pub Tally : List ℕ → V → Type 0
+  Tally works total = length works ≤ 64 → OrderCapped t prices works → t.amount total ≡ order_cost t prices works
 
-  pub tally_more :
-      (works : List ℕ) (w : ℕ) (total r : V) → (length works ≤ 64 → OrderCapped t prices works → Tally works total) → Charged t prices total w r →
-      length (works ++ (w ∷ [])) ≤ 64 → OrderCapped t prices (works ++ (w ∷ [])) → Tally (works ++ (w ∷ [])) r
+  pub tally_more : (works : List ℕ) (w : ℕ) (total r : V) → Tally works total → Charged t prices total w r → Tally (works ++ (w ∷ [])) r
   tally_more works w total r tally charges short capped =
       let more = length-append works (w ∷ []) in
-      let so_far = tally (omega (arith, more)) (all_front (Capped t prices) works (w ∷ []) capped) in
-      let last = (all_back (Capped t prices) works (w ∷ []) capped).0 in
-      let sums = charged_sum total r w so_far.count charges so_far.counted (omega (arith, more, so_far.few)) last in
-      record {
-        count = so_far.count + length (price prices w);
-        few = omega (arith, so_far.few, one_price w, more);
-        counted = total_charged so_far.count total r w so_far.counted last sums;
-        whole = sums ∙ ap (λ x. t.join x (sum t (price prices w))) so_far.whole ∙ sym (order_cost_push t prices works w);
-      }
+      let front = all_front (Capped t prices) works (w ∷ []) capped in
+      let whole = tally (omega (arith, more)) front in
+      charged_sum total r w (length (priced prices works)) charges (priced prices works, refl, priced_within works front, whole)
+      (omega (arith, more, priced_few works)) (all_back (Capped t prices) works (w ∷ []) capped).0
+      ∙ ap (λ x. t.join x (sum t (price prices w))) whole
+      ∙ sym (order_cost_push t prices works w)
