@@ -1,3 +1,4 @@
+mod Drained
 pub mod Existence
 mod Halves
 pub mod Hits

@@ -1,26 +1,18 @@
-use Rattle.std.proofs.Common.{ap, ◌∙◌, arith}
-use Rattle.std.proofs.lemmas.List.{take_all}
-use Rattle.tariff.proofs.Sums.{all_at}
-use Rattle.chooser.specs.Least.{Capped, order_cost}
-use Rattle.chooser.proofs.Tallies.{bill_none, bill_more}
+use Rattle.std.proofs.Common.{◌≡◌, map-id, sym, ◌∙◌, rules}
+use Rattle.std.proofs.lemmas.Iterator.{items_from_drains, YieldsList-from_slice, YieldsList-from_map}
+use Rattle.std.proofs.lemmas.Iterator.Consumers.{YieldsList-at}
 use Rattle.chooser.proofs.terms.Terms.order_cost.Goals as goal
 
-pub loop-number-init : goal.loop-number-init
-loop-number-init g c _ _ =
-    bill_none g.T.Tariff.scale c.args.self.now.prices.now c.args.order.now c.nothing-total.result c.nothing-total.ensures
-
-pub loop-number-preserved : goal.loop-number-preserved
-loop-number-preserved g c short capped =
-    let t = g.T.Tariff.scale in
-    let prices = c.args.self.now.prices.now in
-    let order = c.args.order.now in
-    let place = c.loop-number.number-index in
-    let lt = c.loop-number-test.true in
-    bill_more t prices order c.loop-number.total c.charge-total.result place (c.loop-number.invariant short capped) lt (omega arith)
-    (all_at (Capped t prices) order place 0 lt capped) c.charge-total.ensures
-
 pub returns : goal.returns
-returns g c short capped =
-    (c.loop-number.invariant short capped).whole
-    ∙ ap (order_cost g.T.Tariff.scale c.args.self.now.prices.now)
-    (take_all c.loop-number.number-index c.args.order.now c.loop-number-test.false)
+returns g c =
+    let charged = c.total.ensures in
+    let end = charged.1 in
+    let order = c.args.order.now in
+    let same : charged.0 ≡ order =
+    sym (map-id charged.0)
+    ∙ items_from_drains charged.0 (end.1.0, end.1.1, λ _. (end.0, end.1.2))
+    (YieldsList-from_map _ (λ x. x) (YieldsList-at c.map.ensures.source (YieldsList-from_slice order c.iter.ensures.rest)) c.map.ensures.closure
+    (λ x r q k. search rules))
+    ∙ map-id order
+    in
+    rw (sym same) charged.2
