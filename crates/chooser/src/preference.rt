@@ -11,6 +11,7 @@ use tariff::Tariff;
 impl<T: Tariff> Terms<'_, T> {
     /// Whether a set of works comes before another or is the same: by total, then by set number. No work of either has a price above
     /// the ceiling.
+    // Premises on the two sets that are passed, of which no type here could tell it.
     pub fn precedes(&self, a: Set, b: Set) -> bool
         ensures { SetCapped T.Tariff.scale self.now.prices.now a → SetCapped T.Tariff.scale self.now.prices.now b → MatchBool result (Precedes T.Tariff.scale self.now.prices.now a b) (Precedes T.Tariff.scale self.now.prices.now a b → ⊥) }
     {

@@ -15,7 +15,7 @@ pub struct Answer<V> {
     pub rounds: usize,
 }
 
-/// One call on a planner, for a list of calls.
+/// One call on a planner, for a list of calls. An enum, and no closures: the list is what the contract speaks of.
 #[derive_where(Clone, Copy)]
 pub enum Request<'a, T: Tariff> {
     Enter {

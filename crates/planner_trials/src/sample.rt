@@ -13,6 +13,7 @@ use tariff::pounds::Pounds;
 
 pub const POUNDS: [u64; 7] = [900, 500, 300, 700, 400, 150, 200];
 
+// A table of its own: under pounds there are no hours.
 const HOURS: [u64; 7] = [10, 6, 6, 2, 8, 0, 0];
 
 /// Hours and pounds of the works.

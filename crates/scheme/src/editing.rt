@@ -63,6 +63,8 @@ impl Scheme {
         Ok(())
     }
 
+    // `stand` and `want` are two calls of the rules; what they do alike is `add`.
+
     /// Makes an item stand from the start; answers whether it was added.
     pub fn stand(&mut self, item: u8) -> Result<bool, Refusal>
         ensures { Stood (task_of self.old) item result (task_of self.new) }

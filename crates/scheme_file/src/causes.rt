@@ -32,6 +32,7 @@ impl Cause {
     pub fn number(self) -> u8
         ensures { result ≡ cause_number self }
     {
+        // A match, and no discriminants: one of the causes holds a refusal.
         match self {
             Cause::Refused(refusal) => refusal.number(),
             Cause::CutShort => 12,

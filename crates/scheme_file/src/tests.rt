@@ -137,6 +137,7 @@ fn crowded(rt: HostRuntime) -> Result<(), Fail> {
 #[test]
 fn rewritten(rt: HostRuntime) -> Result<(), Fail> {
     let mut scheme = Scheme::new(rt.alloc())?;
+    // By index: one byte of a copy is another each time.
     for at in 0..70 {
         for byte in [0u8, 1, 2, 3, 5, 32, 64, 126, 127, 255] {
             let mut bytes = SAMPLE;

@@ -33,6 +33,7 @@ fn item_size(row: ItemRow, least: u8, text: &[u8]) -> Result<usize, Cause>
 pub fn items_size(items: &[ItemRow], text: &[u8]) -> Result<usize, Cause>
     ensures { MatchResult result (λ n. ItemsFit items.now text.now × (n ≡ length (bytes_of (map item_record (map (item_in text.now) items.now)))) × (n ≤ 2880)) (λ c. (c ≡ Rows) × (ItemsFit items.now text.now → ⊥)) }
 {
+    // The sum ends at the first row that does not fit, and the least number goes along: a fold would carry all three.
     let mut least = 0;
     let mut size = 0;
     for row in items {

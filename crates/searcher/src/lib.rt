@@ -26,7 +26,7 @@ mod search;
 
 use chooser::Kept;
 
-/// How many sets a searcher can keep.
+/// How many sets a searcher can keep. That a set has 64 numbers and a scheme 64 works are limits of their own.
 const ROOM: usize = 64;
 
 /// A chooser for up to 64 sets. A draw allocates nothing.

@@ -31,7 +31,7 @@ impl<T: Tariff> Draw<'_, T> {
     {
         let mut table = [Set::empty(); 1 << ROOM];
         let end = self.subsets();
-        // An entry is made from those before it, so its number is needed.
+        // Fixed memory, as a draw allocates nothing. An entry is made from those before it, so its number is needed.
         'fill: for m in 0..end {
             let subset = Set::from_bits(m as u64);
             let entry = Entry {
