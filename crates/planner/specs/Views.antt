@@ -18,8 +18,8 @@ Says t (Err e) places o = ((number_of e ≡ 9) × (o ≡ out_of_reach)) ⊎ ((nu
 
 -- a request says a call
 abbrev pub call_of : {T V : Type 0} → Request T V → Call V
-call_of (Enter needs gives) = enter needs gives
-call_of (Amend work needs gives) = amend work needs gives
+call_of (Enter work) = enter work.needs work.gives
+call_of (Amend number work) = amend number work.needs work.gives
 call_of (Stand item) = stand item
 call_of (Want item) = want item
 call_of (Waive item) = waive item

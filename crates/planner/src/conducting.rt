@@ -36,11 +36,11 @@ impl<T: Tariff, C: Chooser> Planner<T, C> {
         ensures { LeadsTo T.Tariff.scale C.Chooser.room C.Chooser.kept self.old (call_of request.now) self.new }
     {
         match request {
-            Request::Enter { needs, gives } => {
-                let _ = self.enter(*needs, *gives);
+            Request::Enter { work } => {
+                let _ = self.enter(*work);
             }
-            Request::Amend { work, needs, gives } => {
-                let _ = self.amend(*work, *needs, *gives);
+            Request::Amend { number, work } => {
+                let _ = self.amend(*number, *work);
             }
             Request::Stand { item } => {
                 let _ = self.stand(*item);

@@ -2,14 +2,12 @@
 ghost use Rattle.std.specs.Prelude.{◌≡◌, [], IfOk};
 ghost use Rattle.scheme.specs.Edits.{opened, Entered, Amended, Stood, Wanted, Waived};
 ghost use Rattle.scheme.specs.Task.{task_of};
-ghost use Rattle.rules.specs.Calls.{of_parts};
 ghost use Rattle.rules.specs.Calls.Call.{enter as to_enter, amend as to_amend, stand as to_stand, want as to_want, waive as to_waive};
 ghost use Rattle.planner.specs.Parts.{Does};
 
 use crate::types::Planner;
 use chooser::Chooser;
 use scheme::{Refusal, Scheme, Work};
-use sets::Set;
 use std::alloc::{AllocError, Global};
 use tariff::Tariff;
 
@@ -49,21 +47,21 @@ impl<T: Tariff, C: Chooser> Planner<T, C> {
     }
 
     /// Enters a work and answers its number.
-    pub fn enter(&mut self, needs: Set, gives: Set) -> Result<u8, Refusal>
-        ensures edit { Entered (task_of self.old.scheme) (of_parts needs gives) result (task_of self.new.scheme) }
-        ensures effect { Does T.Tariff.scale C.Chooser.room C.Chooser.kept self.old (to_enter needs gives) self.new }
+    pub fn enter(&mut self, work: Work) -> Result<u8, Refusal>
+        ensures edit { Entered (task_of self.old.scheme) work result (task_of self.new.scheme) }
+        ensures effect { Does T.Tariff.scale C.Chooser.room C.Chooser.kept self.old (to_enter work.needs work.gives) self.new }
     {
-        let number = self.scheme.enter(Work { needs, gives })?;
+        let number = self.scheme.enter(work)?;
         self.chooser.clear();
         Ok(number)
     }
 
     /// Replaces the needs and gives of a held work.
-    pub fn amend(&mut self, work: u8, needs: Set, gives: Set) -> Result<(), Refusal>
-        ensures edit { Amended (task_of self.old.scheme) work (of_parts needs gives) result (task_of self.new.scheme) }
-        ensures effect { Does T.Tariff.scale C.Chooser.room C.Chooser.kept self.old (to_amend work needs gives) self.new }
+    pub fn amend(&mut self, number: u8, work: Work) -> Result<(), Refusal>
+        ensures edit { Amended (task_of self.old.scheme) number work result (task_of self.new.scheme) }
+        ensures effect { Does T.Tariff.scale C.Chooser.room C.Chooser.kept self.old (to_amend number work.needs work.gives) self.new }
     {
-        self.scheme.amend(work, Work { needs, gives })?;
+        self.scheme.amend(number, work)?;
         self.chooser.clear();
         Ok(())
     }

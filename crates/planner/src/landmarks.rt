@@ -42,6 +42,7 @@ impl<T: Tariff, C: Chooser> Planner<T, C> {
             return Err(Refusal::ListTooShort);
         }
         let first = &mut places[..count];
+        // By place: a chooser is read by place, it lends no list of its landmarks.
         for (place, number) in first.iter_mut().enumerate() {
             if let Some(landmark) = self.chooser.read(place) {
                 *number = landmark.bits();

@@ -3,8 +3,7 @@ ghost use Rattle.scheme.specs.Task.{task_of};
 ghost use Rattle.planner.specs.Led.{Led};
 
 use chooser::{Chooser, Terms};
-use scheme::Scheme;
-use sets::Set;
+use scheme::{Scheme, Work};
 use tariff::Tariff;
 
 /// What a question answers: how many works its order has, its total, and the rounds that were made.
@@ -19,13 +18,11 @@ pub struct Answer<V> {
 #[derive_where(Clone, Copy)]
 pub enum Request<'a, T: Tariff> {
     Enter {
-        needs: Set,
-        gives: Set,
+        work: Work,
     },
     Amend {
-        work: u8,
-        needs: Set,
-        gives: Set,
+        number: u8,
+        work: Work,
     },
     Stand {
         item: u8,

@@ -2,6 +2,7 @@
 use crate::sample::*;
 use chooser::Terms;
 use planner::Planner;
+use scheme::Work;
 use searcher::Searcher;
 use sets::Set;
 use std::process::Abort;
@@ -106,8 +107,16 @@ fn idle_calls(rt: &impl Abort, planner: &mut Planner<Pounds, Searcher>) -> Resul
     assert!(rt; !planner.want(4)?);
     assert!(rt; planner.stand(64).is_err());
     assert!(rt; planner.waive(0).is_err());
-    assert!(rt; planner.amend(7, Set::empty(), Set::only(1)).is_err());
-    assert!(rt; planner.enter(Set::empty(), Set::empty()).is_err());
+    let work = Work {
+        needs: Set::empty(),
+        gives: Set::only(1),
+    };
+    let idle = Work {
+        needs: Set::empty(),
+        gives: Set::empty(),
+    };
+    assert!(rt; planner.amend(7, work).is_err());
+    assert!(rt; planner.enter(idle).is_err());
     Ok(())
 }
 

@@ -1,6 +1,7 @@
 //! Lists of calls, and two planners asked alike.
 use crate::sample::*;
 use planner::{Answer, Planner, Request, ask_both};
+use scheme::Work;
 use searcher::Searcher;
 use sets::Set;
 use std::process::Abort;
@@ -14,12 +15,16 @@ fn a_list_of_calls(rt: HostRuntime) -> Result<(), Fail> {
     let none = Set::empty();
     let requests = [
         Request::Enter {
-            needs: none,
-            gives: Set::only(0),
+            work: Work {
+                needs: none,
+                gives: Set::only(0),
+            },
         },
         Request::Enter {
-            needs: none,
-            gives: none,
+            work: Work {
+                needs: none,
+                gives: none,
+            },
         },
         Request::Want { item: 0 },
         Request::Ask {
@@ -31,9 +36,11 @@ fn a_list_of_calls(rt: HostRuntime) -> Result<(), Fail> {
             paper: &[0],
         },
         Request::Amend {
-            work: 0,
-            needs: Set::only(1),
-            gives: Set::only(0),
+            number: 0,
+            work: Work {
+                needs: Set::only(1),
+                gives: Set::only(0),
+            },
         },
         Request::Stand { item: 1 },
         Request::Want { item: 64 },

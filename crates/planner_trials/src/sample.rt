@@ -1,7 +1,7 @@
 //! The sample junction, and what a question about it is held to.
 use chooser::{Chooser, Terms};
 use planner::{Answer, Planner};
-use scheme::Refusal;
+use scheme::{Refusal, Work};
 use searcher::Searcher;
 use sets::Set;
 use std::alloc::Global;
@@ -42,7 +42,7 @@ pub fn enter_works<T: Tariff, C: Chooser>(
     planner: &mut Planner<T, C>,
 ) -> Result<(), Fail> {
     for work in inspection::junction(heap)?.works() {
-        planner.enter(work.needs, work.gives)?;
+        planner.enter(*work)?;
     }
     Ok(())
 }
@@ -72,7 +72,10 @@ pub fn want<T: Tariff, C: Chooser>(
 
 /// Enters a work with no needs.
 pub fn enter<T: Tariff, C: Chooser>(planner: &mut Planner<T, C>, gives: u64) -> Result<(), Fail> {
-    planner.enter(Set::empty(), Set::from_bits(gives))?;
+    planner.enter(Work {
+        needs: Set::empty(),
+        gives: Set::from_bits(gives),
+    })?;
     Ok(())
 }
 

@@ -10,7 +10,7 @@ pub returns-clause-effect : goal.returns-clause-effect
 returns-clause-effect g c = rw c.clear.ensures (effect_amended _ _ _ _ _ _ _ _ c.in_ok-amend.ensures)
 
 pub invariant_of-self : goal.invariant_of-self
-invariant_of-self g c = record { led = led_by_effect _ _ {c = amend c.args.work c.args.needs c.args.gives} (effect_not_amended _ _ _ _ _ _ _ _ _ c.in_err-amend.ensures) c.args.self.now.led }
+invariant_of-self g c = record { led = led_by_effect _ _ {c = amend c.args.number c.args.work.needs c.args.work.gives} (effect_not_amended _ _ _ _ _ _ _ _ _ c.in_err-amend.ensures) c.args.self.now.led }
 
 pub invariant_of-self-2 : goal.invariant_of-self-2
-invariant_of-self-2 g c = record { led = led_by_effect _ _ {c = amend c.args.work c.args.needs c.args.gives} (rw c.clear.ensures (effect_amended _ _ _ _ _ _ _ _ c.in_ok-amend.ensures)) c.args.self.now.led }
+invariant_of-self-2 g c = record { led = led_by_effect _ _ {c = amend c.args.number c.args.work.needs c.args.work.gives} (rw c.clear.ensures (effect_amended _ _ _ _ _ _ _ _ c.in_ok-amend.ensures)) c.args.self.now.led }
