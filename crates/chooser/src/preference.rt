@@ -15,11 +15,7 @@ impl<T: Tariff> Terms<'_, T> {
     pub fn precedes(&self, a: Set, b: Set) -> bool
         ensures { SetCapped T.Tariff.scale self.now.prices.now a → SetCapped T.Tariff.scale self.now.prices.now b → MatchBool result (Precedes T.Tariff.scale self.now.prices.now a b) (Precedes T.Tariff.scale self.now.prices.now a b → ⊥) }
     {
-        match self.compare_costs(a, b) {
-            Ordering::Less => true,
-            Ordering::Equal => a.bits() <= b.bits(),
-            Ordering::Greater => false,
-        }
+        self.compare_costs(a, b).then(a.cmp(&b)).is_le()
     }
 
     /// How the totals of two sets of works compare.

@@ -32,11 +32,11 @@ impl fmt::Display for Prices {
 
 impl fmt::Display for Family {
     fn fmt<W: fmt::Write>(&self, f: &mut fmt::Formatter<W>) -> fmt::Result {
-        let sets = self.sets;
-        let members = self.members;
-        let works = self.works;
-        let prices = self.prices;
-        write!(f, "{sets} sets of {members} of {works} works, {prices}")
+        write!(
+            f,
+            "{} sets of {} of {} works, {}",
+            self.sets, self.members, self.works, self.prices
+        )
     }
 }
 

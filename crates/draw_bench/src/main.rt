@@ -77,9 +77,11 @@ fn run(rt: &HostRuntime, family: Family, mut times: Option<Times>) -> anyhow::Re
             });
         }
     }
-    let average = nodes.average();
-    let largest = nodes.largest;
-    print!(rt; "{family}: nodes {average}, largest {largest}")?;
+    print!(rt;
+        "{family}: nodes {}, largest {}",
+        nodes.average(),
+        nodes.largest
+    )?;
     if let Some(times) = times {
         tell(rt, family, times)?;
     }
@@ -89,11 +91,9 @@ fn run(rt: &HostRuntime, family: Family, mut times: Option<Times>) -> anyhow::Re
 
 /// Prints the average times; the tabler keeps twelve sets.
 fn tell(rt: &HostRuntime, family: Family, times: Times) -> anyhow::Result<()> {
-    let us = times.searching.average();
-    print!(rt; "; searcher {us} us")?;
+    print!(rt; "; searcher {} us", times.searching.average())?;
     if family.sets as usize <= Tabler::LIMIT {
-        let us = times.tabling.average();
-        print!(rt; "; tabler {us} us")?;
+        print!(rt; "; tabler {} us", times.tabling.average())?;
     }
     Ok(())
 }

@@ -47,7 +47,6 @@ impl Case {
     }
 
     /// 64 works and twelve sets, at equal prices or at any within the ceiling.
-    // A flag: no value goes with it.
     pub fn wide(heap: Global, numbers: &mut Numbers, equal: bool) -> Result<Case, AllocError> {
         let amounts = if equal {
             Amounts {

@@ -28,8 +28,5 @@ fn meets_all(set: Set, kept: &[Set]) -> bool {
 }
 
 fn is_cheaper<T: Tariff>(terms: &Terms<'_, T>, set: Set, best: Option<Set>) -> bool {
-    match best {
-        None => true,
-        Some(other) => T::is_less(terms.set_cost(set), terms.set_cost(other)),
-    }
+    best.is_none_or(|other| T::is_less(terms.set_cost(set), terms.set_cost(other)))
 }

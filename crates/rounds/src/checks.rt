@@ -40,7 +40,7 @@ impl<T: Tariff> Question<'_, T> {
     {
         let count = self.scheme.works().len();
         let mut ceiling = Ok(());
-        // A rule of the project: one pass over the prices with their index looks at both.
+        // A rule of the project: one pass over the prices with their index looks at the count and at the ceiling.
         for (place, price) in self.terms.prices.iter().enumerate() {
             if place >= count {
                 return Err(Refusal::PriceCount);

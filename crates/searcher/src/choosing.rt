@@ -7,6 +7,7 @@ use chooser::{Chooser, Full, Terms};
 use sets::Set;
 use tariff::Tariff;
 
+// All but the draw is handed on to the store: a default body of the trait could not name it.
 impl Chooser for Searcher {
     ghost use Rattle.searcher.specs.declared.TheConstants.{ROOM};
 

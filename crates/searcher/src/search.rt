@@ -16,8 +16,8 @@ pub(crate) struct Walked {
 }
 
 impl<T: Tariff> Draw<'_, T> {
-    /// The first of the sets of the works that meet every kept set, if there is one. A part that is put by has fewer free works than those
-    /// put by before it, so that 64 places are enough.
+    /// The first of the sets of the works that meet every kept set, if there is one. A part that is put on the stack has fewer free works
+    /// than those below it, so that 64 places are enough.
     pub(crate) fn least(&self) -> Walked
         ensures { Searched T.Tariff.scale self.now.terms.prices.now self.now.works self.now.sets.now result.best }
     {
@@ -46,8 +46,8 @@ impl<T: Tariff> Draw<'_, T> {
         }
     }
 
-    /// Goes on from a node and the best set so far: with the two parts of a node that is split by a free work of a kept set that is not met,
-    /// or with the best set that a node leaves that is done.
+    /// Goes on from a node and the best set so far: a node is split by a free work of a kept set that is not met, or it is done, and this is
+    /// then the best set.
     fn advance(&self, node: Node, best: Option<Set>) -> ControlFlow<Option<Set>, (Node, Node)>
         requires node { Of self.now.works node }
         requires best { Best self.now.works self.now.sets.now best }

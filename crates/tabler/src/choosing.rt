@@ -1,4 +1,4 @@
-//! What every chooser promises.
+//! What a tabler does as a chooser.
 ghost use Rattle.std.proofs.Common.{rules};
 
 use crate::table::{Draw, meets_all};
@@ -7,6 +7,7 @@ use chooser::{Chooser, Full, Terms};
 use sets::Set;
 use tariff::Tariff;
 
+// All but the draw is handed on to the store: a default body of the trait could not name it.
 impl Chooser for Tabler {
     ghost use Rattle.tabler.specs.declared.TheConstants.{ROOM};
 

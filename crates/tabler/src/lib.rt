@@ -2,7 +2,7 @@
 //! sets, the least set of works that meets those in it. The table lies on the stack, so a draw allocates nothing.
 //!
 //! - `making`: an empty chooser.
-//! - `choosing`: what every chooser promises.
+//! - `choosing`: what it does as a chooser.
 //! - `table`: the table of a draw, and its last entry.
 //! - `entry`: one entry of the table, from those before it.
 #![tactic(auto)]

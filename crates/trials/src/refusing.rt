@@ -24,12 +24,12 @@ fn work(w: u8) -> Work {
 
 /// Whether a scheme holds just what `scheme_of` makes.
 fn is_unchanged(scheme: &Scheme, works: u8) -> bool {
-    for (w, held) in scheme.works().iter().enumerate() {
-        if w > 63 || *held != work(w as u8) {
-            return false;
-        }
-    }
     scheme.works().len() == works as usize
+        && scheme
+            .works()
+            .iter()
+            .zip(0..works)
+            .all(|(held, w)| *held == work(w))
         && scheme.standing() == Set::only(2)
         && scheme.wanted() == Set::only(5)
 }
