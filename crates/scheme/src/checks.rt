@@ -6,7 +6,7 @@ ghost use Rattle.scheme.specs.declared.refusals.Refusal.TheVariants.{ItemTooHigh
 use crate::{Refusal, Scheme};
 use sets::Set;
 
-/// Refuses an item that cannot be a member of a set.
+/// Refuses an item above 63, which cannot be a member of a set.
 pub fn check_item(item: usize) -> Result<(), Refusal>
     ensures { MatchResult result (λ _. item < 64) (λ e. (e ≡ ItemTooHigh) × (64 ≤ item)) }
 {
@@ -16,7 +16,7 @@ pub fn check_item(item: usize) -> Result<(), Refusal>
     Ok(())
 }
 
-/// Refuses a work whose gives are none.
+/// Refuses the gives of a work that gives nothing.
 pub fn check_gives(gives: Set) -> Result<(), Refusal>
     ensures { MatchResult result (λ _. gives ≢ none) (λ e. (e ≡ GivesNothing) × (gives ≡ none)) }
 {
@@ -26,7 +26,7 @@ pub fn check_gives(gives: Set) -> Result<(), Refusal>
     Ok(())
 }
 
-/// Refuses the entry of a work with these gives where so many works are held.
+/// Refuses to enter a work that gives nothing, or one beyond the 64 that a scheme holds; `held` works are held before it.
 pub fn check_entry(gives: Set, held: usize) -> Result<(), Refusal>
     ensures { MatchResult result (λ _. (gives ≢ none) × (held < 64)) (λ e. ((e ≡ GivesNothing) × (gives ≡ none)) ⊎ ((e ≡ SchemeFull) × (gives ≢ none) × (64 ≤ held))) }
 {
