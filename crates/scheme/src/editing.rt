@@ -1,9 +1,9 @@
 //! Making and editing a scheme.
-ghost use Rattle.std.specs.Prelude.{◌≡◌, ◌<◌, ◌≤◌, IfOk, MatchResult};
+ghost use Rattle.std.specs.Prelude.{◌≡◌, IfOk};
 ghost use Rattle.scheme.specs.Edits.{opened, Entered, Amended, Added, Stood, Wanted, Waived};
 ghost use Rattle.scheme.specs.Task.{task_of};
-ghost use Rattle.scheme.specs.declared.refusals.Refusal.TheVariants.{ItemTooHigh};
 
+use crate::checks::{check_entry, check_gives, check_item};
 use crate::{Refusal, Scheme, Work};
 use sets::Set;
 use std::alloc::{AllocError, Global};
@@ -37,13 +37,8 @@ impl Scheme {
     pub fn enter(&mut self, work: Work) -> Result<u8, Refusal>
         ensures { Entered (task_of self.old) work result (task_of self.new) }
     {
-        if work.gives.is_empty() {
-            return Err(Refusal::GivesNothing);
-        }
         let number = self.works.len();
-        if number >= Scheme::LIMIT {
-            return Err(Refusal::SchemeFull);
-        }
+        check_entry(work.gives, number)?;
         self.works.push_reserved(work);
         Ok(number as u8)
     }
@@ -56,9 +51,7 @@ impl Scheme {
         if at >= self.works.len() {
             return Err(Refusal::NoSuchWork);
         }
-        if work.gives.is_empty() {
-            return Err(Refusal::GivesNothing);
-        }
+        check_gives(work.gives)?;
         self.works[at] = work;
         Ok(())
     }
@@ -83,7 +76,8 @@ impl Scheme {
     pub fn waive(&mut self, item: u8) -> Result<(), Refusal>
         ensures { Waived (task_of self.old) item result (task_of self.new) }
     {
-        let item = member(item)?;
+        let item = item as usize;
+        check_item(item)?;
         if !self.wanted.contains(item) {
             return Err(Refusal::NotWanted);
         }
@@ -96,21 +90,11 @@ impl Scheme {
 fn add(items: &mut Set, item: u8) -> Result<bool, Refusal>
     ensures { Added items.old item result items.new }
 {
-    let item = member(item)?;
+    let item = item as usize;
+    check_item(item)?;
     if items.contains(item) {
         return Ok(false);
     }
     *items = items.with(item);
     Ok(true)
-}
-
-/// An item as a number that can be a member of a set.
-fn member(item: u8) -> Result<usize, Refusal>
-    ensures { MatchResult result (λ i. (i ≡ item) × (i < 64)) (λ e. (e ≡ ItemTooHigh) × (64 ≤ item)) }
-{
-    let item = item as usize;
-    if item >= Set::LIMIT {
-        return Err(Refusal::ItemTooHigh);
-    }
-    Ok(item)
 }

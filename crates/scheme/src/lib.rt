@@ -6,6 +6,7 @@ ghost use Rattle.std.specs.Prelude.{◌≤◌, vec_len, vec_capacity};
 
 use sets::Set;
 
+mod checks;
 mod editing;
 mod landmarks;
 mod orders;
@@ -13,6 +14,7 @@ mod reaching;
 mod reading;
 mod refusals;
 
+pub use checks::{check_entry, check_item};
 pub use refusals::Refusal;
 
 /// A work (an action of delete-free planning): it can be carried out where its needs stand, and its gives stand from then on.

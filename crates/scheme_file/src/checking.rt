@@ -1,6 +1,5 @@
 //! The checking pass: every rule is tested, and nothing is written.
-ghost use Rattle.std.specs.Prelude.{◌≡◌, ◌<◌, ◌≤◌, ◌⊎◌, length, drop, Some, MatchResult, ◌≢◌};
-ghost use Rattle.scheme.specs.declared.refusals.Refusal.TheVariants.{ItemTooHigh, GivesNothing, SchemeFull};
+ghost use Rattle.std.specs.Prelude.{◌≡◌, ◌<◌, ◌≤◌, length, drop, Some, MatchResult, ◌≢◌};
 ghost use Rattle.scheme_file.specs.declared.causes.Cause.TheVariants.{NameByte};
 ghost use Rattle.scheme_file.specs.declared.kinds.Kind.TheVariants.{Item, Work};
 ghost use Rattle.scheme_file.specs.declared.stages.Stage.TheVariants.{Closed};
@@ -14,7 +13,8 @@ use crate::kinds::Kind;
 use crate::numbers::{Number, number_at};
 use crate::places::Place;
 use crate::stages::Stage;
-use scheme::{Refusal, Scheme};
+use scheme::{check_entry, check_item};
+use sets::Set;
 
 /// The kind and the body of the record that the bytes begin with.
 fn frame(rest: &[u8]) -> Result<(Kind, &[u8]), Cause>
@@ -41,30 +41,6 @@ pub fn readable(name: &[u8]) -> Result<(), Cause>
     } else {
         Err(Cause::NameByte)
     }
-}
-
-/// Refuses an item that the scheme cannot hold.
-fn low(item: usize) -> Result<(), Refusal>
-    ensures { MatchResult result (λ _. item ≤ 63) (λ e. (e ≡ ItemTooHigh) × (item ≤ 63 → ⊥)) }
-{
-    if item > 63 {
-        Err(Refusal::ItemTooHigh)
-    } else {
-        Ok(())
-    }
-}
-
-/// Refuses a work that gives nothing or comes after the 64 that a scheme holds.
-fn enterable(works: usize, gives: u64) -> Result<(), Refusal>
-    ensures { MatchResult result (λ _. (gives ≢ 0) × (works < 64)) (λ e. ((gives ≡ 0) × (e ≡ GivesNothing)) ⊎ ((gives ≢ 0) × (works < 64 → ⊥) × (e ≡ SchemeFull))) }
-{
-    if gives == 0 {
-        return Err(Refusal::GivesNothing);
-    }
-    if works >= Scheme::LIMIT {
-        return Err(Refusal::SchemeFull);
-    }
-    Ok(())
 }
 
 /// The records of a file, up to the first that is not tested yet.
@@ -102,7 +78,7 @@ impl<'a> Records<'a> {
             return Err(Cause::OutOfOrder);
         }
         readable(&body[1..])?;
-        low(number)?;
+        check_item(number)?;
         Ok(Place {
             stage: Stage::Items,
             least: number + 1,
@@ -117,7 +93,7 @@ impl<'a> Records<'a> {
         ensures { ByRules (field_rules self.now.place Work body.now) result (λ p. p ≡ after self.now.place Work body.now) }
     {
         readable(&body[20..])?;
-        enterable(self.place.works, number_at(body, 8))?;
+        check_entry(Set::from_bits(number_at(body, 8)), self.place.works)?;
         Ok(Place {
             stage: Stage::Works,
             works: self.place.works + 1,

@@ -8,7 +8,7 @@ ghost use Rattle.scheme_file.specs.Passes.{ItemFits, ItemsFit, WorkFits, WorksFi
 use crate::causes::Cause;
 use crate::checking::readable;
 use crate::rows::{ItemRow, Name, WorkRow};
-use scheme::Work;
+use scheme::{Work, check_item};
 
 /// Whether a name lies in the text and keeps the rules of names.
 fn name_fits(text: &[u8], name: Name) -> bool
@@ -22,7 +22,7 @@ fn name_fits(text: &[u8], name: Name) -> bool
 fn item_size(row: ItemRow, least: u8, text: &[u8]) -> Result<usize, Cause>
     ensures { MatchResult result (λ n. ItemFits text.now least row × (n ≡ 5 + row.name.len)) (λ c. (c ≡ Rows) × (ItemFits text.now least row → ⊥)) }
 {
-    if (least..=63).contains(&row.number) && name_fits(text, row.name) {
+    if least <= row.number && check_item(row.number as usize).is_ok() && name_fits(text, row.name) {
         Ok(5 + row.name.len)
     } else {
         Err(Cause::Rows)
