@@ -146,6 +146,7 @@ impl<'a> Records<'a> {
         requires { Upto self.old.bytes.now self.old.place self.old.at self.old.index × (self.old.place.stage ≢ Closed) }
         ensures { (self.new.bytes.now ≡ self.old.bytes.now) × MatchResult result (λ _. Upto self.old.bytes.now self.new.place self.new.at self.new.index × (self.old.at < self.new.at)) (λ f. Amiss self.old.bytes.now f) }
     {
+        // With `map_err` the proof did not close.
         match self.step(&self.bytes[self.at..]) {
             Ok((place, size)) => {
                 *self = Records {

@@ -2,6 +2,7 @@
 use crate::stages::Stage;
 
 /// What the records before tell of those that can follow; the default is the start of a file.
+// Two counts, and no `Counts`: the rules in specs/ move each by itself.
 #[derive(Clone, Copy, PartialEq, Eq, Default, Debug)]
 pub struct Place {
     pub stage: Stage,

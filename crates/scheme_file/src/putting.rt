@@ -13,6 +13,7 @@ use scheme::Work;
 use sets::Set;
 
 /// Lent bytes that are filled from the first on, and the text in which the names to be put lie.
+// No page that counts what does not fit: how many bytes a file has is known before the first is put, and each record asks room for its own.
 #[derive(Drop)]
 pub struct Output<'a> {
     bytes: &'a mut [u8],
