@@ -108,7 +108,7 @@ module _ {V : Type 0} (t : Scale V) (c : Comparing t) (capacity : ℕ) (k : Task
   judge paper kept None = option_and_then (weigh paper) (question t c capacity k prices bars kept)
 
   abbrev pub verdict : List ℕ → List Set → Mark t.Amount
-  verdict paper kept = judge paper kept (read k bars paper 0 k.standing)
+  verdict order kept = judge order kept (read k bars order 0 k.standing)
 
   abbrev pub Marks : List ℕ → List Set → Mark t.Amount → Type 0
   Marks paper kept r = IfSome r (λ m. Marked t capacity k prices bars paper kept m.0 m.1)
@@ -129,22 +129,22 @@ module _ {V : Type 0} (t : Scale V) (c : Comparing t) (capacity : ℕ) (k : Task
 
   judge_holds :
       Fair t k prices →
-      (paper : List ℕ) (kept : List Set) →
+      (order : List ℕ) (kept : List Set) →
       length kept ≤ capacity →
       (r : Option Flaw) →
-      Reads k bars paper 0 k.standing r →
-      Marks paper kept (judge paper kept r)
-  judge_holds fair paper kept fits (Some f) h = flawed h
-  judge_holds fair paper kept fits None h =
-      and_then_holds _ (weigh paper)
-      (weigh_holds paper kept (record { unbarred = h.unbarred; last = h.end; carried = h.carried; reached = h.reached }))
+      Reads k bars order 0 k.standing r →
+      Marks order kept (judge order kept r)
+  judge_holds fair order kept fits (Some f) h = flawed h
+  judge_holds fair order kept fits None h =
+      and_then_holds _ (weigh order)
+      (weigh_holds order kept (record { unbarred = h.unbarred; last = h.end; carried = h.carried; reached = h.reached }))
       _ (question_holds t c capacity k prices bars fair kept fits)
 
   pub verdict_holds :
       Fair t k prices →
-      (paper : List ℕ) (kept : List Set) →
-      All (λ w. w < length k.works) paper →
+      (order : List ℕ) (kept : List Set) →
+      All (λ w. w < length k.works) order →
       length kept ≤ capacity →
-      Marks paper kept (verdict paper kept)
-  verdict_holds fair paper kept held fits =
-      judge_holds fair paper kept fits (read k bars paper 0 k.standing) (read_holds k bars paper 0 k.standing held)
+      Marks order kept (verdict order kept)
+  verdict_holds fair order kept held fits =
+      judge_holds fair order kept fits (read k bars order 0 k.standing) (read_holds k bars order 0 k.standing held)
