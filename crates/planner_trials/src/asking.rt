@@ -10,19 +10,10 @@ use std::test::Fail;
 use tariff::hours_first::HoursFirst;
 use tariff::pounds::Pounds;
 
-const KEPT: [u64; 5] = [64, 48, 8, 5, 3];
-
 #[test]
 fn one_question_after_another(rt: HostRuntime) -> Result<(), Fail> {
     let mut planner = junction(&rt, rt.alloc())?;
-    expect(
-        &rt,
-        &mut planner,
-        terms(&POUNDS, 0),
-        &[1, 2, 3, 5, 6],
-        1850,
-        6,
-    )?;
+    expect_first(&rt, &mut planner)?;
     expect_kept(&rt, &planner, &KEPT)?;
     expect(
         &rt,
@@ -89,14 +80,7 @@ fn stand(rt: &impl Abort, planner: &mut Planner<Pounds, Searcher>) -> Result<(),
 #[test]
 fn an_item_that_stands(rt: HostRuntime) -> Result<(), Fail> {
     let mut planner = junction(&rt, rt.alloc())?;
-    expect(
-        &rt,
-        &mut planner,
-        terms(&POUNDS, 0),
-        &[1, 2, 3, 5, 6],
-        1850,
-        6,
-    )?;
+    expect_first(&rt, &mut planner)?;
     stand(&rt, &mut planner)?;
     expect_kept(&rt, &planner, &[])?;
     expect(&rt, &mut planner, terms(&POUNDS, 0), &[], 0, 1)
@@ -123,14 +107,7 @@ fn idle_calls(rt: &impl Abort, planner: &mut Planner<Pounds, Searcher>) -> Resul
 #[test]
 fn what_keeps_the_landmarks(rt: HostRuntime) -> Result<(), Fail> {
     let mut planner = junction(&rt, rt.alloc())?;
-    expect(
-        &rt,
-        &mut planner,
-        terms(&POUNDS, 0),
-        &[1, 2, 3, 5, 6],
-        1850,
-        6,
-    )?;
+    expect_first(&rt, &mut planner)?;
     idle_calls(&rt, &mut planner)?;
     want(&rt, &mut planner, 3)?;
     expect_kept(&rt, &planner, &KEPT)?;

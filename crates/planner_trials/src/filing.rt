@@ -25,7 +25,7 @@ fn read(
     items: &mut [ItemRow],
 ) -> Result<(), Fail> {
     assert!(rt; planner.read(&FILE[0..82], works, items).is_err());
-    expect_kept(rt, planner, &[64, 48, 8, 5, 3])?;
+    expect_kept(rt, planner, &KEPT)?;
     assert!(rt; planner.read(&FILE, works, items).is_ok());
     Ok(())
 }
@@ -33,14 +33,7 @@ fn read(
 #[test]
 fn read_and_written_back(rt: HostRuntime) -> Result<(), Fail> {
     let mut planner = junction(&rt, rt.alloc())?;
-    expect(
-        &rt,
-        &mut planner,
-        terms(&POUNDS, 0),
-        &[1, 2, 3, 5, 6],
-        1850,
-        6,
-    )?;
+    expect_first(&rt, &mut planner)?;
     let mut works = [WorkRow::default(); 2];
     let mut items = [ItemRow::default(); 0];
     read(&rt, &mut planner, &mut works, &mut items)?;

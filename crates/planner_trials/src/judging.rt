@@ -40,7 +40,7 @@ fn verdicts(rt: HostRuntime) -> Result<(), Fail> {
     expect_told(&rt, &mut planner, 32, &[1, 2, 3, 5, 6], barred(3))?;
     expect_kept(&rt, &planner, &[])?;
     expect_told(&rt, &mut planner, 0, &[0, 3, 5, 6], Verdict::Dearer(1950))?;
-    expect_kept(&rt, &planner, &[64, 48, 8, 5, 3])?;
+    expect_kept(&rt, &planner, &KEPT)?;
     expect_told(
         &rt,
         &mut planner,

@@ -64,14 +64,7 @@ fn uncopied(rt: &impl Abort, planner: &Planner<Pounds, Searcher>) -> Result<(), 
 #[test]
 fn landmarks(rt: HostRuntime) -> Result<(), Fail> {
     let mut planner = junction(&rt, rt.alloc())?;
-    expect(
-        &rt,
-        &mut planner,
-        terms(&POUNDS, 0),
-        &[1, 2, 3, 5, 6],
-        1850,
-        6,
-    )?;
+    expect_first(&rt, &mut planner)?;
     uncopied(&rt, &planner)?;
-    expect_kept(&rt, &planner, &[64, 48, 8, 5, 3])
+    expect_kept(&rt, &planner, &KEPT)
 }

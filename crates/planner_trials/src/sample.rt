@@ -16,6 +16,9 @@ pub const POUNDS: [u64; 7] = [900, 500, 300, 700, 400, 150, 200];
 // A table of its own: under pounds there are no hours.
 const HOURS: [u64; 7] = [10, 6, 6, 2, 8, 0, 0];
 
+/// The landmarks kept after the first question in pounds, by the numbers of their sets.
+pub const KEPT: [u64; 5] = [64, 48, 8, 5, 3];
+
 /// Hours and pounds of the works.
 pub fn hours_and_pounds() -> [HoursAndPounds; 7] {
     let mut prices = [HoursAndPounds::default(); 7];
@@ -97,6 +100,11 @@ pub fn expect<C: Chooser>(
     assert_eq!(rt; planner.ask(&terms, &mut places)?, answer);
     expect_front(rt, &places, order);
     Ok(())
+}
+
+/// Asks in pounds and with no bars for the first time on the sample junction, and checks the answer.
+pub fn expect_first(rt: &impl Abort, planner: &mut Planner<Pounds, Searcher>) -> Result<(), Fail> {
+    expect(rt, planner, terms(&POUNDS, 0), &[1, 2, 3, 5, 6], 1850, 6)
 }
 
 /// Checks that the first places hold an order, and that later places stayed as they were.
