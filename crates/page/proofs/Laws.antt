@@ -33,11 +33,12 @@ puts_none from at small = record {
 pub adds_more : {p q r : Page} {xs ys : List ℕ} → Adds p xs q → Adds q ys r → Adds p (xs ++ ys) r
 adds_more {p} a b = record {
   puts = puts_more p.long a.puts b.puts;
+  same_length = b.same_length ∙ a.same_length;
   same_reference = b.same_reference ∙ a.same_reference;
 }
 
 pub adds_none : (p : Page) → Adds p [] p
-adds_none p = record { puts = puts_none p.bytes.now p.at p.counted; same_reference = refl }
+adds_none p = record { puts = puts_none p.bytes.now p.at p.counted; same_length = refl; same_reference = refl }
 
 pub adds_as : {p q : Page} {xs ys : List ℕ} → xs ≡ ys → Adds p xs q → Adds p ys q
 adds_as {p} {q} e a = subst (λ (l : List ℕ). Adds p l q) e a

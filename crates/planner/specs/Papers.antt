@@ -1,7 +1,6 @@
 -- What a marking promises, and what its steps answer.
-use Rattle.std.specs.Prelude.{◌≡◌, ℕ, ◌<◌, ◌≤◌, ◌⊎◌, List, length, Some, None, Ok, Err, Option, Result, slice_index}
+use Rattle.std.specs.Prelude.{◌≡◌, ℕ, ◌≤◌, ◌⊎◌, List, length, Some, None, Ok, Err, Option, Result}
 use Rattle.sets.specs.declared.Set.{Set}
-use Rattle.sets.specs.Member.{Has}
 use Rattle.scheme.specs.declared.refusals.Refusal.{Refusal}
 use Rattle.scheme.specs.Orders.{Plan}
 use Rattle.scheme.specs.Refusals.{number_of}
@@ -26,12 +25,6 @@ abbrev pub flaw_of : Flaw → rules.Flaw
 flaw_of (Barred place) = barred place
 flaw_of (Lacking place item) = lacking place item
 flaw_of (Missing item) = missing item
-
--- the first place at which a barred work stands, or that there is none
-abbrev pub FirstBarred : Set → List ℕ → Option ℕ → Type 0
-FirstBarred bars paper (Some p) =
-    (p < length paper) × Has bars (slice_index paper p) × ((j : ℕ) → j < p → Has bars (slice_index paper j) → ⊥)
-FirstBarred bars paper None = (j : ℕ) → j < length paper → Has bars (slice_index paper j) → ⊥
 
 -- the first flaw of a paper, or that it is a plan
 abbrev pub FirstFlaw : Task → Set → List ℕ → Option Flaw → Type 0

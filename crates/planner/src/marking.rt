@@ -2,12 +2,12 @@
 ghost use Rattle.std.specs.Prelude.{◌<◌, length};
 ghost use Rattle.scheme.specs.Task.{task_of};
 ghost use Rattle.tariff.specs.Amounts.{All};
-ghost use Rattle.planner.specs.Papers.{AssuredMarking, Compares, FirstBarred, FirstFlaw, Marks};
+ghost use Rattle.planner.specs.Papers.{AssuredMarking, Compares, FirstFlaw, Marks};
 
 use crate::types::Planner;
 use chooser::{Chooser, Terms};
 use rounds::Question;
-use scheme::{Refusal, Scheme, Stop};
+use scheme::{Refusal, Scheme};
 use sets::Set;
 use tariff::Tariff;
 
@@ -49,33 +49,27 @@ impl<T: Tariff, C: Chooser> Planner<T, C> {
     }
 }
 
-/// The first flaw of a paper of held works, if it is no plan: the works before the first barred one are carried out.
+/// The first flaw of a paper of held works, if it is no plan. One pass, which ends at the flaw: a look for a barred work before the works are
+/// carried out would read the whole paper.
 fn first_flaw(scheme: &Scheme, bars: Set, paper: &[u8]) -> Option<Flaw>
     requires { All (λ w. w < length (task_of scheme.now).works) paper.now }
     ensures { FirstFlaw (task_of scheme.now) bars paper.now result }
 {
-    let barred = first_barred(bars, paper);
-    let free = barred.unwrap_or(paper.len());
-    match scheme.carry_out(&paper[..free]) {
-        Err(Stop::NotHeld { .. }) => unreachable!(),
-        Err(Stop::Lacking { place, item }) => Some(Flaw::Lacking { place, item }),
-        Ok(held) => match barred {
-            Some(place) => Some(Flaw::Barred { place }),
-            None => {
-                let item = scheme.wanted().minus(held).lowest()?;
-                Some(Flaw::Missing { item })
-            }
-        },
+    let works = scheme.works();
+    let mut held = scheme.standing();
+    for (place, number) in paper.iter().enumerate() {
+        let w = *number as usize;
+        if bars.contains(w) {
+            return Some(Flaw::Barred { place });
+        }
+        let work = works[w];
+        if let Some(item) = work.needs.minus(held).lowest() {
+            return Some(Flaw::Lacking { place, item });
+        }
+        held = held.union(work.gives);
     }
-}
-
-/// The first place of a paper at which a barred work stands.
-fn first_barred(bars: Set, paper: &[u8]) -> Option<usize>
-    ensures { FirstBarred bars paper.now result }
-{
-    paper
-        .iter()
-        .position(|number| bars.contains(*number as usize))
+    let item = scheme.wanted().minus(held).lowest()?;
+    Some(Flaw::Missing { item })
 }
 
 /// The total of a paper, beside that of the cheapest set.

@@ -9,13 +9,11 @@ use tariff::Tariff;
 
 // All but the draw is handed on to the store: a default body of the trait could not name it.
 impl Chooser for Searcher {
-    ghost use Rattle.searcher.specs.declared.TheConstants.{ROOM};
-
     const LIMIT: usize = ROOM;
 
     ghost kept = { λ s. s.kept.sets.items };
 
-    ghost room = { ROOM };
+    ghost room = { 64 };
 
     ghost small = { Prim.search rules };
 

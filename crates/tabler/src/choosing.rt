@@ -9,13 +9,11 @@ use tariff::Tariff;
 
 // All but the draw is handed on to the store: a default body of the trait could not name it.
 impl Chooser for Tabler {
-    ghost use Rattle.tabler.specs.declared.TheConstants.{ROOM};
-
     const LIMIT: usize = ROOM;
 
     ghost kept = { λ c. c.kept.sets.items };
 
-    ghost room = { ROOM };
+    ghost room = { 12 };
 
     ghost small = { Prim.search rules };
 
